@@ -1,0 +1,9 @@
+pub mod Tests
+pub mod Sets
+pub mod Loops
+pub mod Passes
+pub mod Forced
+pub mod Plays
+pub mod Win
+pub mod Moves
+pub mod Readings

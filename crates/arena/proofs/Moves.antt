@@ -1,0 +1,88 @@
+-- Laws of winning by numbers of moves: it is growing and dropping by passes, and the two numbers are opposite.
+use Prim.Native.Nat.{ℕ, zero, suc, _<_, zero-le}
+use mathlib.Core.Path.{_≡_, sym, ap, fun-ext}
+use mathlib.Core.Bool.{not}
+use mathlib.Core.Logic.{inl, inr, _↔_}
+use native.Mathlib.Omega.{arith}
+use lib.Dec.{T, T-not, not-T}
+use Rattle.arena.specs.Sets.{Set, compl}
+use Rattle.arena.specs.Game.{Side, other, Game, forced}
+use Rattle.arena.specs.Win.{Goal, toReach, toStay, reachIn, stayFor, ByMoves}
+use Rattle.arena.specs.Passes.{grow, shrink}
+use Rattle.arena.proofs.Tests.{T-ext, or-l, or-r, or-cases, not-not, nor}
+use Rattle.arena.proofs.Sets.{Sub}
+use Rattle.arena.proofs.Passes.{grow-le, grow-rest, shrink-grow}
+use Rattle.arena.proofs.Forced.{forced-mono, forced-dual}
+use Rattle.arena.proofs.Win.{reach, hold, region}
+
+module _ (g : Game) (i : Side) (A : Set) where
+  -- what wins in k moves wins in one more
+  pub reachIn-more : (k : ℕ) → Sub (g .size) (reachIn g i A k) (reachIn g i A (suc k))
+  unfolding reachIn
+  reachIn-more zero s l x = or-l (A s) (forced g i (reachIn g i A 0) s) x
+  reachIn-more (suc k) s l x = elim (or-cases (A s) (forced g i (reachIn g i A k) s) x) [
+    | inl a ↦ or-l (A s) (forced g i (reachIn g i A (suc k)) s) a
+    | inr f ↦ or-r (A s) (forced g i (reachIn g i A (suc k)) s)
+        (forced-mono g i (reachIn g i A k) (reachIn g i A (suc k)) (reachIn-more k) s l f)
+  ]
+
+  -- what k passes bring in wins in k moves, and the other way round
+  both-ways : (k : ℕ) → Sub (g .size) (grow (forced g i) A k) (reachIn g i A k) × Sub (g .size) (reachIn g i A k) (grow (forced g i) A k)
+  unfolding grow reachIn
+  both-ways zero = ((λ s l x. x), λ s l x. x)
+  both-ways (suc k) =
+      let ih = both-ways k in
+      let P = grow (forced g i) A k in
+      let R = reachIn g i A k in (
+        (λ s l x. elim (or-cases (P s) (forced g i P s) x) [
+          | inl y ↦ reachIn-more k s l (ih .0 s l y)
+          | inr f ↦ or-r (A s) (forced g i R s) (forced-mono g i P R (ih .0) s l f)
+        ]),
+        λ s l x. elim (or-cases (A s) (forced g i R s) x) [
+          | inl a ↦ grow-le (forced g i) A 0 (suc k) s zero-le a
+          | inr f ↦ or-r (P s) (forced g i P s) (forced-mono g i R P (ih .1) s l f)
+        ],
+      )
+
+  -- the target after k passes of forced steps is what wins reach in k moves
+  pub grow-is-reachIn : (k s : ℕ) → s < g .size → grow (forced g i) A k s ≡ reachIn g i A k s
+  grow-is-reachIn k s l = T-ext (grow (forced g i) A k s) (reachIn g i A k s) (both-ways k .0 s l) (both-ways k .1 s l)
+
+  -- the states that win reach in some number of moves are those of reach
+  pub reach-moves : (s : ℕ) → s < g .size → ((k : ℕ) × T (reachIn g i A k s)) ↔ T (reach g i A s)
+  unfolding reach
+  reach-moves s l = (
+    (λ w. grow-rest (g .size) (forced g i) (forced-mono g i) A (g .size) (omega arith) (w .0) s l (both-ways (w .0) .1 s l (w .1))),
+    λ h. (g .size, both-ways (g .size) .0 s l h),
+  )
+
+  -- side i keeps the play in A for k moves exactly where its opponent cannot leave A within k
+  pub stayFor-other : (k : ℕ) → stayFor g i A k ≡ compl (reachIn g (other i) (compl A) k)
+  unfolding stayFor reachIn
+  stayFor-other zero = fun-ext (λ s. sym (not-not (A s)))
+  stayFor-other (suc k) =
+      let R = reachIn g (other i) (compl A) k in
+      fun-ext (λ s. rw (stayFor-other k) (rw (forced-dual g i R s) (rw (not-not (A s)) at (nor (not (A s)) (forced g (other i) R s)))))
+
+module _ (g : Game) (i : Side) (A : Set) where
+  -- the target after k removal passes is what side i can keep for k moves
+  pub shrink-is-stayFor : (k s : ℕ) → s < g .size → shrink (forced g i) A k s ≡ stayFor g i A k s
+  shrink-is-stayFor k s l =
+      rw (stayFor-other g i A k, shrink-grow (forced g i) (forced g (other i)) (forced-dual g i) A k)
+      (ap not (grow-is-reachIn g (other i) (compl A) k s l))
+
+  -- the states where side i can keep the play in A for every number of moves are those of hold
+  pub hold-moves : (s : ℕ) → s < g .size → ((k : ℕ) → T (stayFor g i A k s)) ↔ T (hold g i A s)
+  unfolding hold
+  hold-moves s l =
+      let R = reachIn g (other i) (compl A) in
+      let theirs = reach-moves g (other i) (compl A) s l in (
+        (λ f. not-T (reach g (other i) (compl A) s) (λ h.
+            let w = theirs .1 h in T-not (R (w .0) s) (rw (stayFor-other g i A (w .0)) at (f (w .0))) (w .1))),
+        λ h k. rw (stayFor-other g i A k) (not-T (R k s) (λ r. T-not (reach g (other i) (compl A) s) h (theirs .0 (k, r)))),
+      )
+
+-- the winning region is 01's reading by numbers of moves
+pub region-moves : (g : Game) (i : Side) (o : Goal) (A : Set) (s : ℕ) → s < g .size → ByMoves g i o A s ↔ T (region g i o A s)
+region-moves g i toReach A s l = reach-moves g i A s l
+region-moves g i toStay A s l = hold-moves g i A s l

@@ -1,0 +1,1 @@
+// Games, plays and winning: definitions in specs/, theorems in proofs/, no code.

@@ -1,0 +1,237 @@
+-- Laws of faults and tests, in the form that `search` can use: a tested value x may be what a call gave, x ≡ a.
+use mathlib.Core.Path.{_≡_, refl, sym, _∙_}
+use mathlib.Core.Bool.{Bool, true, false, not, _&&_, true≢false}
+use mathlib.Core.List.{List}
+use Prim.Native.Nat.{ℕ, zero, suc, _+_, _-_, _*_, _≤_, _<_}
+use native.Mathlib.Nat.{zero-add, suc-add, not-suc-le-zero, eq-or-lt-of-le, le-of-suc-le-suc}
+use mathlib.Core.Logic.{⊎-elim}
+use native.Mathlib.Numerals.{add-one}
+use native.Mathlib.Omega.{arith}
+use lib.ListN.{length}
+use lib.Dec.{T, eqb, leb, ltb}
+use borrow.Author.Needs.{needs}
+use borrow.Author.Tests.{eq-eqb, ne-eqb, le-leb, lt-leb, lt-ltb, le-ltb, leb-true, not-true, not-false}
+use Rattle.file.specs.Fault.{unless, when, _then_, lowest}
+use Rattle.file.specs.Layout.{word, moveAt, states, from, to}
+use Rattle.file.specs.Refusals.{frame, pairBelow, ascends}
+
+-- ## Chains of tests, for the code that walks along them
+
+-- a call found a fault
+pub then-fault : (a b e : ℕ) → e ≡ a → (e ≡ 0 → ⊥) → e ≡ (a then b)
+unfolding _then_
+then-fault zero b e p q = absurd (q p)
+then-fault (suc a) b e p q = p
+
+-- a call found none
+pub then-none : (a b e v : ℕ) → e ≡ a → e ≡ 0 → v ≡ b → v ≡ (a then b)
+unfolding _then_
+then-none a b e v p q r = let z : a ≡ 0 = sym p ∙ q in rw z r
+
+-- a test failed, or passed
+pub unless-stop : (t : Bool) (b v : ℕ) → T (ltb 0 v) → t ≡ false → v ≡ (unless t v then b)
+unfolding _then_ unless
+unless-stop true b v h e = absurd (true≢false e)
+unless-stop false b zero h e = absurd h
+unless-stop false b (suc v) h e = refl
+
+pub unless-pass : (t : Bool) (b v w : ℕ) → t ≡ true → w ≡ b → w ≡ (unless t v then b)
+unfolding _then_ unless
+unless-pass t b v w e r = rw e r
+
+pub unless-last : (t : Bool) (v : ℕ) → t ≡ false → v ≡ unless t v
+unfolding unless
+unless-last t v e = rw e refl
+
+pub unless-end : (t : Bool) (v : ℕ) → t ≡ true → 0 ≡ unless t v
+unfolding unless
+unless-end t v e = rw e refl
+
+pub when-stop : (t : Bool) (b v : ℕ) → T (ltb 0 v) → t ≡ true → v ≡ (when t v then b)
+unfolding _then_ when
+when-stop false b v h e = absurd (true≢false (sym e))
+when-stop true b zero h e = absurd h
+when-stop true b (suc v) h e = refl
+
+pub when-pass : (t : Bool) (b v w : ℕ) → t ≡ false → w ≡ b → w ≡ (when t v then b)
+unfolding _then_ when
+when-pass t b v w e r = rw e r
+
+pub when-last : (t : Bool) (v : ℕ) → t ≡ true → v ≡ when t v
+unfolding when
+when-last t v e = rw e refl
+
+pub when-end : (t : Bool) (v : ℕ) → t ≡ false → 0 ≡ when t v
+unfolding when
+when-end t v e = rw e refl
+
+-- a test that a call made: r is its result
+pub unless-call-stop : (r t : Bool) (b v : ℕ) → r ≡ t → T (ltb 0 v) → not r ≡ true → v ≡ (unless t v then b)
+unless-call-stop r t b v q h e = unless-stop t b v h (sym q ∙ not-true r e)
+
+pub unless-call-pass : (r t : Bool) (b v w : ℕ) → r ≡ t → not r ≡ false → w ≡ b → w ≡ (unless t v then b)
+unless-call-pass r t b v w q e p = unless-pass t b v w (sym q ∙ not-false r e) p
+
+pub when-call-stop : (r t : Bool) (b v : ℕ) → r ≡ t → T (ltb 0 v) → r ≡ true → v ≡ (when t v then b)
+when-call-stop r t b v q h e = when-stop t b v h (sym q ∙ e)
+
+pub when-call-pass : (r t : Bool) (b v w : ℕ) → r ≡ t → r ≡ false → w ≡ b → w ≡ (when t v then b)
+when-call-pass r t b v w q e p = when-pass t b v w (sym q ∙ e) p
+
+pub when-call-last : (r t : Bool) (v : ℕ) → r ≡ t → r ≡ true → v ≡ when t v
+when-call-last r t v q e = when-last t v (sym q ∙ e)
+
+pub when-call-end : (r t : Bool) (v : ℕ) → r ≡ t → r ≡ false → 0 ≡ when t v
+when-call-end r t v q e = when-end t v (sym q ∙ e)
+
+pub unless-call-last : (r t : Bool) (v : ℕ) → r ≡ t → not r ≡ true → v ≡ unless t v
+unless-call-last r t v q e = unless-last t v (sym q ∙ not-true r e)
+
+pub unless-call-end : (r t : Bool) (v : ℕ) → r ≡ t → not r ≡ false → 0 ≡ unless t v
+unless-call-end r t v q e = unless-end t v (sym q ∙ not-false r e)
+
+pub ruleset calls = (unless-call-stop, unless-call-pass, unless-call-last, unless-call-end, when-call-stop, when-call-pass, when-call-last, when-call-end)
+
+-- ## Tests of what a call gave
+
+pub le-left : (x a b : ℕ) → x ≡ a → x ≤ b → leb a b ≡ true
+le-left x a b e h = le-leb a b (rw e at h)
+
+pub le-right : (x a b : ℕ) → x ≡ b → a ≤ x → leb a b ≡ true
+le-right x a b e h = le-leb a b (rw e at h)
+
+pub gt-left : (x a b : ℕ) → x ≡ a → b < x → leb a b ≡ false
+gt-left x a b e h = lt-leb a b (rw e at h)
+
+pub gt-right : (x a b : ℕ) → x ≡ b → x < a → leb a b ≡ false
+gt-right x a b e h = lt-leb a b (rw e at h)
+
+pub lt-left : (x a b : ℕ) → x ≡ a → x < b → ltb a b ≡ true
+lt-left x a b e h = lt-ltb a b (rw e at h)
+
+pub ge-left : (x a b : ℕ) → x ≡ a → b ≤ x → ltb a b ≡ false
+ge-left x a b e h = le-ltb a b (rw e at h)
+
+pub eq-left : (x a b : ℕ) → x ≡ a → x ≡ b → eqb a b ≡ true
+eq-left x a b e h = eq-eqb a b (sym e ∙ h)
+
+pub ne-left : (x a b : ℕ) → x ≡ a → (x ≡ b → ⊥) → eqb a b ≡ false
+ne-left x a b e h = ne-eqb a b (λ q. h (e ∙ q))
+
+pub both : (a b : Bool) → a ≡ true → b ≡ true → (a && b) ≡ true
+both a b p q = rw (p, q)
+
+pub first-not : (a b : Bool) → a ≡ false → (a && b) ≡ false
+first-not a b p = rw p
+
+pub second-not : (a b : Bool) → b ≡ false → (a && b) ≡ false
+second-not true b p = p
+second-not false b p = refl
+
+pub ruleset faults = (then-fault, then-none, unless-stop, unless-pass, unless-last, unless-end, when-stop, when-pass, when-last, when-end, le-leb, lt-leb, lt-ltb, le-ltb, eq-eqb, ne-eqb, le-left, le-right, gt-left, gt-right, lt-left, ge-left, eq-left, ne-left, both, first-not, second-not, needs)
+
+-- ## What a passed test says
+
+pub then-zero : (a b : ℕ) → (a then b) ≡ 0 → (a ≡ 0) × (b ≡ 0)
+unfolding _then_
+then-zero zero b e = (refl, e)
+then-zero (suc a) b e = absurd (omega arith)
+
+pub unless-zero : (t : Bool) (v : ℕ) → T (ltb 0 v) → unless t v ≡ 0 → t ≡ true
+unfolding unless
+unless-zero true v h e = refl
+unless-zero false zero h e = absurd h
+unless-zero false (suc v) h e = absurd (omega arith)
+
+pub when-zero : (t : Bool) (v : ℕ) → T (ltb 0 v) → when t v ≡ 0 → t ≡ false
+unfolding when
+when-zero false v h e = refl
+when-zero true zero h e = absurd h
+when-zero true (suc v) h e = absurd (omega arith)
+
+-- the other way: no fault
+pub zero-then : (a b : ℕ) → a ≡ 0 → b ≡ 0 → (a then b) ≡ 0
+zero-then a b p q = sym (then-none a b a 0 refl p (sym q))
+
+pub unless-ok : (t : Bool) (v : ℕ) → t ≡ true → unless t v ≡ 0
+unless-ok t v e = sym (unless-end t v e)
+
+pub when-ok : (t : Bool) (v : ℕ) → t ≡ false → when t v ≡ 0
+when-ok t v e = sym (when-end t v e)
+
+pub frame-long : (f : List ℕ) (at len kind e : ℕ) → e ≡ frame f at len kind → e ≡ 0 → at + 2 + len ≤ length f
+unfolding frame
+frame-long f at len kind e p q =
+    let z = then-zero _ _ (then-zero _ _ (then-zero _ _ (sym p ∙ q) .1) .1) .1 in
+    leb-true _ _ (unless-zero _ 2 tt z)
+
+-- ## Loops over records
+
+pub lowest-none : (p : ℕ → ℕ) → lowest 0 p ≡ 0
+unfolding lowest
+lowest-none p = refl
+
+-- one record more
+pub lowest-more : (n : ℕ) (p : ℕ → ℕ) → lowest (n + 1) p ≡ (lowest n p then p n)
+unfolding lowest
+lowest-more n p = rw add-one
+
+pub lowest-still : (n : ℕ) (p : ℕ → ℕ) (e : ℕ) → lowest n p ≡ 0 → e ≡ p n → e ≡ 0 → lowest (n + 1) p ≡ 0
+lowest-still n p e a q z = lowest-more n p ∙ sym (then-none (lowest n p) (p n) (lowest n p) 0 refl a (sym z ∙ q))
+
+pub lowest-done : (k n : ℕ) (p : ℕ → ℕ) → lowest k p ≡ 0 → k ≤ n → n ≤ k → 0 ≡ lowest n p
+lowest-done k n p e l h = let q : k ≡ n = omega arith in sym (rw q at e)
+
+-- the first fault decides, however many records follow
+lowest-kept : (d n : ℕ) (p : ℕ → ℕ) (e : ℕ) → (e ≡ 0 → ⊥) → e ≡ lowest n p → e ≡ lowest (d + n) p
+unfolding lowest
+lowest-kept zero n p e z q = rw zero-add q
+lowest-kept (suc d) n p e z q = rw suc-add (then-fault (lowest (d + n) p) (p (d + n)) e (lowest-kept d n p e z q) z)
+
+pub lowest-found : (n : ℕ) (p : ℕ → ℕ) (k e : ℕ) → k < n → lowest k p ≡ 0 → e ≡ p k → (e ≡ 0 → ⊥) → e ≡ lowest n p
+lowest-found n p k e l a q z =
+    let s : (n - (k + 1)) + (k + 1) ≡ n = omega arith in
+    rw s at (lowest-kept (n - (k + 1)) (k + 1) p e z (rw lowest-more (then-none (lowest k p) (p k) (lowest k p) e refl a q)))
+
+pub ruleset records = (lowest-none, lowest-still, lowest-done, lowest-found, faults)
+
+-- ## Moves in order
+
+pub ascends-first : (f : List ℕ) (k : ℕ) → k ≡ 0 → ascends f k ≡ true
+unfolding ascends
+ascends-first f k e = rw e refl
+
+-- where move records stand
+pub move-next : (f : List ℕ) (k : ℕ) → moveAt f (k + 1) ≡ moveAt f k + 8
+unfolding moveAt
+move-next f k = omega arith
+
+pub move-mono : (f : List ℕ) (k m : ℕ) → k < m → moveAt f k + 8 ≤ moveAt f m
+unfolding moveAt
+move-mono f k m l = omega arith
+
+pub move-start : (f : List ℕ) (k : ℕ) → 10 + 8 * states f ≤ moveAt f k
+unfolding moveAt
+move-start f k = omega arith
+
+-- what the code reads of move k, at place i, and of the one before, at place j
+pub ascends-is : (f : List ℕ) (k i j : ℕ) → i ≡ moveAt f k → j ≡ moveAt f (k - 1) → (k ≡ 0 → ⊥) → (x s y t : ℕ) → x ≡ word f (j + 4) → s ≡ word f (j + 6) → y ≡ word f (i + 4) → t ≡ word f (i + 6) → pairBelow x s y t ≡ ascends f k
+unfolding ascends
+ascends-is f k i j p q later x s y t a b c d = rw (a, b, c, d, p, q) (go (k - 1) (omega arith))
+  where
+    go : (h : ℕ) → k ≡ suc h → pairBelow (from f h) (to f h) (from f k) (to f k) ≡ ascends f k
+    go h e = rw e refl
+
+pub ruleset moving = (ascends-first, faults)
+
+-- no record has a fault
+pub lowest-zero : (n : ℕ) (p : ℕ → ℕ) → lowest n p ≡ 0 → (k : ℕ) → k < n → p k ≡ 0
+unfolding lowest
+lowest-zero zero p e k l = absurd (not-suc-le-zero l)
+lowest-zero (suc n) p e k l =
+    ⊎-elim (λ (q : k ≡ n). rw q (then-zero (lowest n p) (p n) e .1)) (λ (lt : k < n). lowest-zero n p (then-zero (lowest n p) (p n) e .0) k lt) (eq-or-lt-of-le (le-of-suc-le-suc l))
+
+pub lowest-all : (n : ℕ) (p : ℕ → ℕ) → ((k : ℕ) → k < n → p k ≡ 0) → lowest n p ≡ 0
+unfolding lowest
+lowest-all zero p h = refl
+lowest-all (suc n) p h = zero-then (lowest n p) (p n) (lowest-all n p (λ k l. h k (omega arith))) (h n (omega arith))

@@ -1,0 +1,14 @@
+-- `word_within` meets its contract.
+use borrow.Author.Needs.{needs}
+use borrow.Author.Tests.{lt-leb, le-leb}
+use Rattle.file.proofs.word_within.Statement.{statement}
+use Rattle.file.proofs.word_within.Tie as tie
+
+pub word-within-spec : {M : Type 1} → statement M
+word-within-spec =
+    tie.close
+    (tie.spec
+    (λ c κs. search needs)
+    (λ c. search needs)
+    (λ c. rw (← c .before .word-at .ensures) (simp (lt-leb _ _ (c .if1 .taken))))
+    (λ c. rw (← c .before .word-at .ensures) (simp (le-leb _ _ (c .if1 .left)))))

@@ -1,0 +1,4 @@
+pub mod Fault
+pub mod Layout
+pub mod Refusals
+pub mod Sound

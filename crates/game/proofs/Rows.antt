@@ -1,0 +1,147 @@
+-- Laws of rows: fill and Cells, in the form that a loop's proof can use.
+use mathlib.Core.Path.{_≡_, refl, sym, ap, ap₂, _∙_}
+use mathlib.Core.Bool.{Bool, true, false, or-true, or-false}
+use mathlib.Core.List.{List, [], _∷_, _++_}
+use Prim.Native.Nat.{ℕ, zero, suc, _+_, _≤_, _<_}
+use native.Mathlib.Decide.{ℕ-discrete}
+use native.Mathlib.Nat.{le-of-suc-le-suc, not-suc-le-zero, add-zero, zero-add, suc-add, add-suc}
+use native.Mathlib.Numerals.{add-one}
+use native.Mathlib.Omega.{arith}
+use borrow.Author.Needs.{needs}
+use borrow.Author.Tests.{eq-eqb, ne-eqb}
+use lib.ListN.{length, getD, set, take, drop, length-set, length-replicate}
+use lib.Seq.{drop-nil, getD-set-same, getD-set-other}
+use Rattle.arena.specs.Sets.{some, bit}
+use Rattle.arena.proofs.Loops.{some-more, tests}
+use Rattle.game.specs.Rows.{tabulate, fill, blank, zeros, Cells}
+
+-- ## Rows
+
+module _ {A : Type 0} where
+  tab-suc : (n i : ℕ) (f : ℕ → A) (d : List A) → n < length d → set (tabulate i n f ++ drop n d) n (f (n + i)) ≡ tabulate i (suc n) f ++ drop (suc n) d
+  unfolding tabulate
+  tab-suc n i f [] l = absurd (not-suc-le-zero l)
+  tab-suc zero i f (x ∷ d) l = rw zero-add
+  tab-suc (suc n) i f (x ∷ d) l = ap (λ (t : List A). f i ∷ t) (rw suc-add (rw (← add-suc) (tab-suc n (suc i) f d (le-of-suc-le-suc l))))
+
+  -- a loop that fills cells in order: no cell yet, a turn, and the end
+  pub fill-none : (f : ℕ → A) (d : List A) → d ≡ fill 0 f d
+  unfolding tabulate fill
+  fill-none f d = refl
+
+  pub fill-store : (n : ℕ) (f : ℕ → A) (d : List A) → n < length d → (l : List A) → l ≡ fill n f d → (v : A) → v ≡ f n → set l n v ≡ fill (n + 1) f d
+  unfolding fill
+  fill-store n f d h l e v q = rw (e, q, add-one) (rw add-zero at (tab-suc n 0 f d h))
+
+  pub fill-done : (k n : ℕ) (f : ℕ → A) (d l : List A) → l ≡ fill k f d → k ≤ n → n ≤ k → l ≡ fill n f d
+  fill-done k n f d l e h g = let q : k ≡ n = omega arith in rw q at e
+
+  tab-cell : (n i : ℕ) (f : ℕ → A) (d : List A) (k : ℕ) (a : A) → k < n → getD (tabulate i n f ++ d) k a ≡ f (k + i)
+  unfolding tabulate
+  tab-cell zero i f d k a l = absurd (not-suc-le-zero l)
+  tab-cell (suc n) i f d zero a l = rw zero-add
+  tab-cell (suc n) i f d (suc k) a l = tab-cell n (suc i) f d k a (le-of-suc-le-suc l) ∙ ap f (add-suc k i ∙ sym (suc-add k i))
+
+  pub fill-cell : (n : ℕ) (f : ℕ → A) (d : List A) (k : ℕ) (a : A) → k < n → getD (fill n f d) k a ≡ f k
+  unfolding fill
+  fill-cell n f d k a l = tab-cell n 0 f (drop n d) k a l ∙ ap f (add-zero k)
+
+  tab-cong : (n i : ℕ) (f g : ℕ → A) → ((k : ℕ) → k < n → f (k + i) ≡ g (k + i)) → tabulate i n f ≡ tabulate i n g
+  unfolding tabulate
+  tab-cong zero i f g h = refl
+  tab-cong (suc n) i f g h =
+      ap₂ _∷_ (rw zero-add at (h 0 (omega arith)))
+      (tab-cong n (suc i) f g (λ k l. rw (add-suc, ← suc-add) (h (suc k) (omega arith))))
+
+  -- rows filled alike are equal
+  pub fill-cong : (n : ℕ) (f g : ℕ → A) (d : List A) → ((k : ℕ) → k < n → f k ≡ g k) → fill n f d ≡ fill n g d
+  unfolding fill
+  fill-cong n f g d h = ap (λ (t : List A). t ++ drop n d) (tab-cong n 0 f g (λ k l. rw add-zero (h k l)))
+
+  tab-drop : (n i : ℕ) (f : ℕ → A) (d : List A) → drop n (tabulate i n f ++ d) ≡ d
+  unfolding tabulate
+  tab-drop zero i f d = refl
+  tab-drop (suc n) i f d = tab-drop n (suc i) f d
+
+  tab-take : (n i : ℕ) (f : ℕ → A) (d : List A) → take n (tabulate i n f ++ d) ≡ tabulate i n f
+  unfolding tabulate
+  tab-take zero i f d = refl
+  tab-take (suc n) i f d = ap (λ (t : List A). f i ∷ t) (tab-take n (suc i) f d)
+
+  -- the filled places do not depend on the row, and the others are the row's
+  pub fill-take : (n : ℕ) (f : ℕ → A) (d e : List A) → take n (fill n f d) ≡ take n (fill n f e)
+  unfolding fill
+  fill-take n f d e = tab-take n 0 f (drop n d) ∙ sym (tab-take n 0 f (drop n e))
+
+  pub fill-drop : (n : ℕ) (f : ℕ → A) (d : List A) → drop n (fill n f d) ≡ drop n d
+  unfolding fill
+  fill-drop n f d = tab-drop n 0 f (drop n d)
+
+  -- what is filled again forgets the first filling
+  pub fill-again : (n : ℕ) (f g : ℕ → A) (d : List A) → fill n f (fill n g d) ≡ fill n f d
+  unfolding fill
+  fill-again n f g d = ap (λ (t : List A). tabulate 0 n f ++ t) (tab-drop n 0 g (drop n d))
+
+  pub blank-length : (n : ℕ) (a : A) → length (blank n a) ≡ n
+  unfolding blank
+  blank-length n a = length-replicate n a
+
+pub fill-at : (n : ℕ) (f : ℕ → ℕ) (d : List ℕ) (k : ℕ) → k < n → getD (fill n f d) k 0 ≡ f k
+fill-at n f d k l = fill-cell n f d k 0 l
+
+tab-past : (n i : ℕ) (f : ℕ → ℕ) (d : List ℕ) (k : ℕ) → n ≤ k → getD (tabulate i n f ++ drop n d) k 0 ≡ getD d k 0
+unfolding tabulate
+tab-past zero i f d k l = refl
+tab-past (suc n) i f d zero l = absurd (not-suc-le-zero l)
+tab-past (suc n) i f [] (suc k) l = rw (drop-nil n) at (tab-past n (suc i) f [] k (le-of-suc-le-suc l))
+tab-past (suc n) i f (x ∷ d) (suc k) l = tab-past n (suc i) f d k (le-of-suc-le-suc l)
+
+pub fill-past : (n : ℕ) (f : ℕ → ℕ) (d : List ℕ) (k : ℕ) → n ≤ k → getD (fill n f d) k 0 ≡ getD d k 0
+unfolding fill
+fill-past n f d k l = tab-past n 0 f d k l
+
+tab-length : (n i : ℕ) (f : ℕ → ℕ) (d : List ℕ) → n ≤ length d → length (tabulate i n f ++ drop n d) ≡ length d
+unfolding tabulate
+tab-length zero i f d l = refl
+tab-length (suc n) i f [] l = absurd (not-suc-le-zero l)
+tab-length (suc n) i f (x ∷ d) l = ap suc (tab-length n (suc i) f d (le-of-suc-le-suc l))
+
+pub fill-length : (n : ℕ) (f : ℕ → ℕ) (d : List ℕ) → n ≤ length d → length (fill n f d) ≡ length d
+unfolding fill
+fill-length n f d l = tab-length n 0 f d l
+
+pub zeros-length : (n : ℕ) → length (zeros n) ≡ n
+zeros-length n = blank-length {A = ℕ} n 0
+
+pub zeros-at : (n s : ℕ) → getD (zeros n) s 0 ≡ 0
+unfolding blank
+zeros-at zero s = refl
+zeros-at (suc n) zero = refl
+zeros-at (suc n) (suc s) = zeros-at n s
+
+-- ## A loop that stores anywhere
+
+-- after a store of v at i: f' has v there, and is f elsewhere
+pub cells-store : {n : ℕ} {l l' : List ℕ} {f : ℕ → ℕ} {f' : ℕ → ℕ} (i v : ℕ) → Cells n l f → l' ≡ set l i v → i < n → v ≡ f' i → ((s : ℕ) → (s ≡ i → ⊥) → f s ≡ f' s) → Cells n l' f'
+cells-store {n} {l} {l'} {f} {f'} i v c w h q keep =
+    rw w (record { long = length-set l i v ∙ c .long; cell = at })
+  where
+    at : (s : ℕ) → s < n → getD (set l i v) s 0 ≡ f' s
+    at s b = elim (ℕ-discrete s i) [ yes p ↦ rw p (getD-set-same l i v 0 (rw (c .long) h) ∙ q) | no p ↦ getD-set-other l i s v 0 p ∙ c .cell s b ∙ keep s p ]
+
+pub some-same : (n : ℕ) (p : ℕ → Bool) → p n ≡ false → bit (some n p) ≡ bit (some (n + 1) p)
+some-same n p e = rw (some-more, e, or-false)
+
+pub some-now : (n : ℕ) (p : ℕ → Bool) → p n ≡ true → 1 ≡ bit (some (n + 1) p)
+some-now n p e = rw (some-more, e, or-true)
+
+pub ruleset walk = (tests, fill-none, fill-done, eq-eqb, ne-eqb, needs)
+
+-- a cell that holds a Bool's bit, as a test saw it
+pub bit-one : (b : Bool) (v : ℕ) → v ≡ bit b → v ≡ 1 → b ≡ true
+bit-one true v e q = refl
+bit-one false v e q = absurd (omega arith)
+
+pub bit-not : (b : Bool) (v : ℕ) → v ≡ bit b → (v ≡ 1 → ⊥) → b ≡ false
+bit-not true v e q = absurd (q e)
+bit-not false v e q = refl
