@@ -1,4 +1,5 @@
 pub mod Limits
 pub mod Rows
 pub mod Game
+pub mod Arena
 pub mod Accepted

@@ -1,0 +1,3 @@
+pub mod Run
+pub mod Plan
+pub mod Solve
