@@ -151,6 +151,14 @@ accepted-whole f e =
       target-apart = when-zero _ 11 tt (d .1);
     }
 
+-- 01, 'Game file': an accepted file is 10 + 8 × states + 8 × moves bytes long; at most 36,874
+pub exact-length : (f : List ℕ) → refusal f ≡ 0 → (length f ≡ 10 + 8 * states f + 8 * moves f) × (length f ≤ 36874)
+unfolding moveAt
+exact-length f e =
+    let ok = accepted-sound f 0 (sym e) refl in
+    let whole = accepted-whole f e in
+    (omega (arith, ok .long, whole .ends), omega (arith, whole .ends, ok .few-states, ok .few-moves))
+
 -- ## What the code reads of a sound file of n states and m moves
 
 module _ (f : List ℕ) (n : ℕ) (e : n ≡ states f) (g : Sound f) where
