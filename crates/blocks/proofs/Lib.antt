@@ -1,0 +1,5 @@
+pub mod Blocks
+pub mod Hunt
+pub mod Border
+pub mod Split
+pub mod Sound
