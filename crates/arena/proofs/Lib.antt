@@ -7,3 +7,5 @@ pub mod Plays
 pub mod Win
 pub mod Moves
 pub mod Readings
+pub mod Choices
+pub mod Least

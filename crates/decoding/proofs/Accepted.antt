@@ -16,6 +16,8 @@ use Rattle.file.specs.Refusals.{pairBelow, ascends, initial, target, moved, mix
 use Rattle.file.specs.Sound.{Sound}
 use Rattle.file.proofs.Sound.{and-first, and-second, accepted-sound, Whole, accepted-whole}
 use Rattle.file.proofs.Mixed.{uniform}
+use Rattle.decoding.specs.declared.Answer.{Answer}
+use Rattle.decoding.specs.declared.Answer.the-variants.{Accepted as Taken, Refused}
 use Rattle.decoding.specs.declared.Decoded.{Decoded}
 use Rattle.decoding.specs.Decode.{refusalNumber, gameOf, answered, decoded}
 use Rattle.decoding.proofs.Rows.{turn-is, marks-is, block-is, from-is, to-is, initial-is, target-is}
@@ -102,3 +104,23 @@ decoded-number f = go (refusal f)
 -- 01, 'What the contracts settle': any two answers that the contract of `decode` permits coincide
 pub decode-determined : (f : List ℕ) (a b : Decoded) → a ≡ decoded f → b ≡ decoded f → a ≡ b
 decode-determined f a b p q = p ∙ sym q
+
+-- what a match on the answer learns: the file is accepted, or refused for the number that is given
+pub answer-accepted : (f : List ℕ) (d : Decoded) → d ≡ decoded f → d .answer ≡ Taken → refusal f ≡ 0
+answer-accepted f d p q = sym (decoded-number f) ∙ ap refusalNumber (sym (ap (λ (x : Decoded). x .answer) p) ∙ q)
+
+pub answer-refused : (f : List ℕ) (d : Decoded) (e : ℕ) → d ≡ decoded f → d .answer ≡ Refused e → (e ≡ refusal f) × (e ≡ 0 → ⊥)
+unfolding decoded
+answer-refused f d e p q = go (refusal f) refl
+  where
+    go : (r : ℕ) → refusal f ≡ r → (e ≡ refusal f) × (e ≡ 0 → ⊥)
+    go zero h = absurd (never (d .answer) e (ap (λ (x : Decoded). x .answer) (p ∙ ap (λ (k : ℕ). answered k (gameOf f)) h)) q)
+      where
+        never : (a : Answer) (e : ℕ) → a ≡ Taken → a ≡ Refused e → ⊥
+        never a e x y = let z : _≡_ {A = ℕ} 0 1 = cc in omega arith
+    go (suc r) h =
+        let same : e ≡ suc r = number (d .answer) e r (ap (λ (x : Decoded). x .answer) (p ∙ ap (λ (k : ℕ). answered k (gameOf f)) h)) q in
+        (same ∙ sym h, λ z. omega arith)
+      where
+        number : (a : Answer) (e r : ℕ) → a ≡ Refused (suc r) → a ≡ Refused e → e ≡ suc r
+        number a e r x y = cc

@@ -1,25 +1,14 @@
--- The three ends of the exchange, and its choices byte by byte.
+-- The three ends of the exchange.
 use mathlib.Core.Path.{_≡_, refl, sym, _∙_}
-use mathlib.Core.Bool.{Bool, true, false, cond}
 use mathlib.Core.List.{List}
 use Prim.Native.Nat.{ℕ, zero, suc, _≤_, _<_}
 use lib.ListN.{length}
-use borrow.Author.Needs.{needs}
-use borrow.Author.Tests.{eq-eqb, ne-eqb, le-leb, lt-leb, lt-ltb, le-ltb}
+use borrow.Author.Tests.{le-leb, lt-leb}
 use Rattle.file.specs.Refusals.{refusal}
 use Rattle.file.proofs.Laws.{then-fault, then-none, unless-last, unless-end}
 use Rattle.exchange.specs.declared.Exchanged.{Exchanged}
 use Rattle.exchange.specs.declared.Exchanged.the-variants.{Written, Refused}
 use Rattle.exchange.specs.Exchange.{answered, kept, exchangeFault}
-
--- the test of a choice passed, or failed
-pub cond-yes : (t : Bool) (v a b : ℕ) → t ≡ true → v ≡ a → v ≡ cond t a b
-cond-yes t v a b e q = rw e q
-
-pub cond-no : (t : Bool) (v a b : ℕ) → t ≡ false → v ≡ b → v ≡ cond t a b
-cond-no t v a b e q = rw e q
-
-pub ruleset choices = (cond-yes, cond-no, eq-eqb, ne-eqb, le-leb, lt-leb, lt-ltb, le-ltb, needs)
 
 -- the file is refused, the output is too short, or neither
 pub fault-file : (f : List ℕ) (room e : ℕ) → e ≡ refusal f → (e ≡ 0 → ⊥) → e ≡ exchangeFault f room

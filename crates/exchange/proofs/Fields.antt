@@ -42,10 +42,10 @@ marks-known = upto-three (λ m. leb (otherMarks m) 3 ≡ true) refl refl refl re
 pub marks-twice : (m : ℕ) → m ≤ 3 → otherMarks (otherMarks m) ≡ m
 marks-twice = upto-three (λ m. otherMarks (otherMarks m) ≡ m) refl refl refl refl
 
-marks-initial : (m : ℕ) → m ≤ 3 → marked 1 (otherMarks m) ≡ marked 1 m
+pub marks-initial : (m : ℕ) → m ≤ 3 → marked 1 (otherMarks m) ≡ marked 1 m
 marks-initial = upto-three (λ m. marked 1 (otherMarks m) ≡ marked 1 m) refl refl refl refl
 
-marks-target : (m : ℕ) → m ≤ 3 → marked 2 (otherMarks m) ≡ not (marked 2 m)
+pub marks-target : (m : ℕ) → m ≤ 3 → marked 2 (otherMarks m) ≡ not (marked 2 m)
 marks-target = upto-three (λ m. marked 2 (otherMarks m) ≡ not (marked 2 m)) refl refl refl refl
 
 -- ## The exchanged file's

@@ -9,6 +9,7 @@ use native.Mathlib.Numerals.{add-one}
 use native.Mathlib.Omega.{arith}
 use lib.ListN.{length}
 use lib.Dec.{T, eqb, leb, ltb}
+use Rattle.arena.proofs.Choices.{both, first-not, second-not}
 use borrow.Author.Needs.{needs}
 use borrow.Author.Tests.{eq-eqb, ne-eqb, le-leb, lt-leb, lt-ltb, le-ltb, leb-true, not-true, not-false}
 use Rattle.file.specs.Fault.{unless, when, _then_, lowest}
@@ -117,16 +118,6 @@ eq-left x a b e h = eq-eqb a b (sym e ∙ h)
 
 pub ne-left : (x a b : ℕ) → x ≡ a → (x ≡ b → ⊥) → eqb a b ≡ false
 ne-left x a b e h = ne-eqb a b (λ q. h (e ∙ q))
-
-pub both : (a b : Bool) → a ≡ true → b ≡ true → (a && b) ≡ true
-both a b p q = rw (p, q)
-
-pub first-not : (a b : Bool) → a ≡ false → (a && b) ≡ false
-first-not a b p = rw p
-
-pub second-not : (a b : Bool) → b ≡ false → (a && b) ≡ false
-second-not true b p = p
-second-not false b p = refl
 
 pub ruleset faults = (then-fault, then-none, unless-stop, unless-pass, unless-last, unless-end, when-stop, when-pass, when-last, when-end, le-leb, lt-leb, lt-ltb, le-ltb, eq-eqb, ne-eqb, le-left, le-right, gt-left, gt-right, lt-left, ge-left, eq-left, ne-left, both, first-not, second-not, needs)
 

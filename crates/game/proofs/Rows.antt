@@ -113,6 +113,12 @@ fill-length n f d l = tab-length n 0 f d l
 pub zeros-length : (n : ℕ) → length (zeros n) ≡ n
 zeros-length n = blank-length {A = ℕ} n 0
 
+pub blank-at : (n a s : ℕ) → s < n → getD (blank n a) s 0 ≡ a
+unfolding blank
+blank-at zero a s l = absurd (not-suc-le-zero l)
+blank-at (suc n) a zero l = refl
+blank-at (suc n) a (suc s) l = blank-at n a s (le-of-suc-le-suc l)
+
 pub zeros-at : (n s : ℕ) → getD (zeros n) s 0 ≡ 0
 unfolding blank
 zeros-at zero s = refl

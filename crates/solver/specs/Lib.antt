@@ -1,3 +1,4 @@
 pub mod Run
 pub mod Plan
 pub mod Solve
+pub mod Work

@@ -1,6 +1,6 @@
 -- `exchanged_byte` meets its contract.
 use Rattle.exchange.specs.Exchange.{exchangedByte}
-use Rattle.exchange.proofs.Answers.{choices}
+use Rattle.arena.proofs.Choices.{choices}
 use Rattle.exchange.proofs.exchanged_byte.Statement.{statement}
 use Rattle.exchange.proofs.exchanged_byte.Tie as tie
 

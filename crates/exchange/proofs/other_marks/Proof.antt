@@ -1,5 +1,5 @@
 -- `other_marks` meets its contract.
-use Rattle.exchange.proofs.Answers.{choices}
+use Rattle.arena.proofs.Choices.{choices}
 use Rattle.exchange.proofs.other_marks.Statement.{statement}
 use Rattle.exchange.proofs.other_marks.Tie as tie
 

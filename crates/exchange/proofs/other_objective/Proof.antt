@@ -1,5 +1,5 @@
 -- `other_objective` meets its contract.
-use Rattle.exchange.proofs.Answers.{choices}
+use Rattle.arena.proofs.Choices.{choices}
 use Rattle.exchange.proofs.other_objective.Statement.{statement}
 use Rattle.exchange.proofs.other_objective.Tie as tie
 

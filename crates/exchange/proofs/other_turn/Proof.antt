@@ -1,5 +1,5 @@
 -- `other_turn` meets its contract.
-use Rattle.exchange.proofs.Answers.{choices}
+use Rattle.arena.proofs.Choices.{choices}
 use Rattle.exchange.proofs.other_turn.Statement.{statement}
 use Rattle.exchange.proofs.other_turn.Tie as tie
 

@@ -1,0 +1,10 @@
+pub mod Plays
+pub mod Plans
+pub mod Strategies
+pub mod Verdicts
+pub mod Demand2
+pub mod Traded
+pub mod TradedRound
+pub mod Exchanged
+pub mod ExchangedRun
+pub mod Demand3

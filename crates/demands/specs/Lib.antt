@@ -1,0 +1,3 @@
+pub mod Aims
+pub mod Answers
+pub mod Trades

@@ -1,0 +1,15 @@
+-- `pass_no` meets its contract.
+use mathlib.Core.Path.{refl}
+use borrow.Author.Tests.{eq-eqb, ne-eqb}
+use Rattle.rounds.specs.Stamp.{passNo}
+use Rattle.rounds.proofs.pass_no.Statement.{statement}
+use Rattle.rounds.proofs.pass_no.Tie as tie
+
+pub pass-no-spec : {M : Type 1} → statement M
+unfolding passNo
+pass-no-spec =
+    tie.close
+    (tie.spec
+    (λ c. rw (ne-eqb _ _ (c .if1 .taken)) refl)
+    (λ c. rw (eq-eqb _ _ (c .before .if1 .left), c .if2 .taken) refl)
+    (λ c. rw (eq-eqb _ _ (c .before .if1 .left), c .if2 .left) refl))

@@ -1,0 +1,3 @@
+pub mod Stamp
+pub mod Border
+pub mod Split

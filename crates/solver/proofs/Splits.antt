@@ -1,0 +1,117 @@
+-- The round as the code works it out: its rows, and the split of its border block.
+use mathlib.Core.Path.{_≡_, refl, sym, ap, ap₂, _∙_, fun-ext}
+use mathlib.Core.Bool.{Bool, true, false, not, _&&_, cond, Bool·beq, true≢false}
+use mathlib.Core.List.{List}
+use Prim.Native.Nat.{ℕ, _<_}
+use native.Mathlib.Omega.{arith}
+use lib.ListN.{getD}
+use lib.Dec.{T, eqb}
+use borrow.Author.Tests.{eq-eqb}
+use Rattle.arena.specs.Sets.{Set, bit, some, least}
+use Rattle.arena.specs.Game.{Side, forced}
+use Rattle.arena.proofs.Tests.{is-true, and-intro, holds, fails}
+use Rattle.arena.proofs.Sets.{some-intro}
+use Rattle.arena.proofs.Passes.{mono-ext}
+use Rattle.arena.proofs.Forced.{forced-mono}
+use Rattle.arena.proofs.Least.{least-cong}
+use Rattle.game.specs.Limits.{maxStates}
+use Rattle.game.specs.Rows.{fill, zeros}
+use Rattle.game.specs.Game.{blockNo, blockAt, targets}
+use Rattle.game.specs.Arena.{sideOf, goalOf, arenaOf}
+use Rattle.game.specs.Accepted.{Accepted}
+use Rattle.game.specs.declared.BlockNo.{BlockNo}
+use Rattle.game.specs.declared.Game.{Game}
+use Rattle.game.proofs.Rows.{fill-at, fill-cong}
+use Rattle.blocks.specs.Blocks.{meets, isBlock, split}
+use Rattle.blocks.specs.Round.{border, borderBlock}
+use Rattle.blocks.specs.Hunt.{insideStep, meetsStep, lower}
+use Rattle.blocks.proofs.Blocks.{meets-mono}
+use Rattle.blocks.proofs.Hunt.{undecided-hunter, known-hunter}
+use Rattle.rounds.specs.Stamp.{passAt, isIn, stampFrom, stamp, joining}
+use Rattle.rounds.specs.Border.{bordering, borderAnswer}
+use Rattle.rounds.specs.Split.{ones, withSplit}
+use Rattle.rounds.specs.declared.Border.{Border}
+use Rattle.rounds.specs.declared.Border.the-variants.{At, Nothing}
+use Rattle.rounds.proofs.Stamp.{passes-from}
+use Rattle.rounds.proofs.Joining.{joining-mono}
+use Rattle.rounds.proofs.RowSets.{bordering-sets, ones-row, split-cong}
+use Rattle.solver.specs.Run.{knownStates, OPEN, word, splitGame}
+use Rattle.solver.specs.Work.{huntingSide, preyStates, lowerStates, upperStates, lowerRow, upperRow}
+use Rattle.solver.proofs.Rounds.{borderOf, open-border-block}
+use Rattle.solver.proofs.Marks.{in-lower, in-upper}
+
+-- ## The rows of passes
+
+module _ (g : Game) (side : ℕ) (hunts : sideOf side ≡ huntingSide g) (first row : List ℕ)
+    (prey-is : first ≡ fill (g .states) (λ s. bit (preyStates g s)) (zeros maxStates)) where
+  -- whole blocks inside
+  pub lower-worked : row ≡ fill (g .states) (stampFrom (joining g side true) (passAt first) (g .states)) first → row ≡ lowerRow g
+  unfolding lowerRow joining
+  lower-worked e =
+      e ∙ passes-from (g .states) (joining g side true) (joining-mono g side true) (preyStates g) first (zeros maxStates) prey-is (g .states)
+      ∙ ap (λ (i : Side). fill (g .states) (stamp (insideStep (arenaOf g) (blockAt g) i) (preyStates g) (g .states)) (zeros maxStates)) hunts
+
+  -- blocks that meet
+  pub upper-worked : row ≡ fill (g .states) (stampFrom (joining g side false) (passAt first) (g .states)) first → row ≡ upperRow g
+  unfolding upperRow joining
+  upper-worked e =
+      e ∙ passes-from (g .states) (joining g side false) (joining-mono g side false) (preyStates g) first (zeros maxStates) prey-is (g .states)
+      ∙ ap (λ (i : Side). fill (g .states) (stamp (meetsStep (arenaOf g) (blockAt g) i) (preyStates g) (g .states)) (zeros maxStates)) hunts
+
+-- ## The split
+
+module _ (g : Game) (side : ℕ) (hunts : sideOf side ≡ huntingSide g) where
+  -- the forced-step set of the lower row is the known set
+  pub known-is : (s : ℕ) → s < g .states → forced (arenaOf g) (sideOf side) (isIn (lowerRow g)) s ≡ knownStates g s
+  unfolding arenaOf
+  known-is s l =
+      mono-ext (g .states) (forced (arenaOf g) (sideOf side)) (forced-mono (arenaOf g) (sideOf side)) (isIn (lowerRow g)) (lowerStates g) (in-lower g) s l
+      ∙ ap (λ (i : Side). forced (arenaOf g) i (lowerStates g) s) hunts
+      ∙ sym (ap (λ (X : Set). X s) (known-hunter (arenaOf g) (blockAt g) (targets g) (goalOf (g .objective))))
+
+  -- the blocks that the search looks for are the border blocks
+  pub bordering-is : (s : ℕ) → s < g .states
+      → bordering g side (lowerRow g) (upperRow g) s ≡ (isBlock (blockAt g) s && border (arenaOf g) (blockAt g) (goalOf (g .objective)) (targets g) s)
+  unfolding border arenaOf
+  bordering-is s l =
+      let n = g .states in
+      let A = arenaOf g in
+      let L = lowerStates g in
+      let known : forced A (sideOf side) L ≡ knownStates g = ap (λ (i : Side). forced A i L) hunts ∙ sym (known-hunter A (blockAt g) (targets g) (goalOf (g .objective))) in
+      bordering-sets g side (lowerRow g) (upperRow g) L (upperStates g) (in-lower g) (in-upper g) s l
+      ∙ rw (known, undecided-hunter A (blockAt g) (targets g) (goalOf (g .objective)) s)
+      (shift (isBlock (blockAt g) s) (upperStates g s) (not (L s)) (meets n (blockAt g) (knownStates g) s))
+    where
+      shift : (a b c d : Bool) → ((a && b && c) && d) ≡ (a && ((b && c) && d))
+      shift true b c d = refl
+      shift false b c d = refl
+
+  -- the search in an open round finds the lowest-numbered border block
+  pub border-found : Accepted g → word g ≡ OPEN → (found : Border) → found ≡ borderAnswer (g .states) (bordering g side (lowerRow g) (upperRow g))
+      → found ≡ At (blockNo (borderOf g))
+  unfolding borderAnswer borderBlock arenaOf
+  border-found ok e found p =
+      let b = open-border-block g ok e in
+      let X : Set = bordering g side (lowerRow g) (upperRow g) in
+      let here : T (isBlock (blockAt g) (borderOf g) && border (arenaOf g) (blockAt g) (goalOf (g .objective)) (targets g) (borderOf g)) = and-intro (isBlock (blockAt g) (borderOf g)) (border (arenaOf g) (blockAt g) (goalOf (g .objective)) (targets g) (borderOf g)) (named (borderOf g) (b .name)) (b .on-border) in
+      let yes : some (g .states) X ≡ true = is-true (some (g .states) X) (some-intro (g .states) X (borderOf g) (b .state) (rw (bordering-is (borderOf g) (b .state)) here)) in
+      p ∙ rw yes (ap (λ (n : ℕ). At (blockNo n)) (least-cong (g .states) X _ bordering-is))
+    where
+      named : (b : ℕ) → blockAt g b ≡ b → T (eqb (blockAt g b) b)
+      named b q = rw (eq-eqb (blockAt g b) b q) tt
+
+-- the split by what the code works out is the game's
+pub split-worked : (g : Game) (side : ℕ) → sideOf side ≡ huntingSide g → (known : List ℕ)
+    → known ≡ fill (g .states) (λ s. bit (forced (arenaOf g) (sideOf side) (isIn (lowerRow g)) s)) (zeros maxStates)
+    → (b : ℕ) → b ≡ borderOf g → withSplit g b (ones known) ≡ splitGame g
+unfolding withSplit splitGame
+split-worked g side hunts known e b q =
+    rw q (split-cong g (borderOf g) (ones known) (knownStates g)
+    (λ s l. ones-row (g .states) (forced (arenaOf g) (sideOf side) (isIn (lowerRow g))) known (zeros maxStates) e s l ∙ known-is g side hunts s l))
+
+-- what the match on the search's answer knows
+pub at-number : (found : Border) (a b : BlockNo) → found ≡ At a → found ≡ At b → a .0 ≡ b .0
+at-number found a b p q = cc
+
+pub at-nothing : (found : Border) (b : BlockNo) → found ≡ Nothing → found ≡ At b → ⊥
+at-nothing found b p q = let z : _≡_ {A = ℕ} 0 1 = cc in omega arith

@@ -1,0 +1,13 @@
+-- `is_start` meets its contract.
+use mathlib.Core.Path.{sym, _∙_}
+use Rattle.arena.proofs.Choices.{choices, and-stop, and-pass}
+use Rattle.solver.proofs.rows.is_start.Statement.{statement}
+use Rattle.solver.proofs.rows.is_start.Tie as tie
+
+pub is-start-spec : {M : Type 1} → statement M
+is-start-spec =
+    tie.close
+    (tie.spec
+    (λ c κs. search choices)
+    (λ c. rw (← c .before .is-initial .ensures) (search choices))
+    (λ c. rw (← c .before .is-initial .ensures) (search choices)))

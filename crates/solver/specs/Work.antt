@@ -1,0 +1,127 @@
+-- What the rows at work hold, for the contracts of internal functions. Nothing that is promised is stated in these terms;
+-- proofs/ has the laws that tie them to 01's words.
+use Prim.Native.Nat.{ℕ, zero, suc, _+_}
+use mathlib.Core.Path.{_≡_}
+use mathlib.Core.Bool.{Bool, true, false, not, _&&_, cond}
+use mathlib.Core.List.{List}
+use lib.Dec.{eqb, ltb}
+use Rattle.arena.specs.Sets.{Set, compl}
+use Rattle.arena.specs.Game.{Side, other, same}
+use Rattle.arena.specs.Win.{Goal}
+use Rattle.arena.specs.Passes.{rank}
+use Rattle.game.specs.Limits.{maxStates}
+use Rattle.game.specs.Rows.{fill, zeros}
+use Rattle.game.specs.Game.{stateNo, turnAt, blockAt, fromAt, toAt, targets}
+use Rattle.game.specs.Arena.{goalOf, arenaOf}
+use Rattle.game.specs.Accepted.{Accepted}
+use Rattle.game.specs.declared.Game.{Game}
+use Rattle.blocks.specs.Hunt.{hunter, prey, insideStep, meetsStep, lower, upper}
+use Rattle.rounds.specs.Stamp.{stamp}
+use Rattle.solver.specs.Run.{Word, YES, NO, OPEN, Run}
+use Rattle.solver.specs.Plan.{mark, noMove, advice}
+use Rattle.solver.specs.Solve.{namedStart}
+use Rattle.solver.specs.declared.Decision.{Decision}
+use Rattle.solver.specs.declared.Decision.the-variants.{Yes, No, Open}
+use Rattle.solver.specs.declared.Round.{Round}
+use Rattle.solver.specs.declared.Verdict.{Verdict}
+use Rattle.solver.specs.declared.Verdict.the-variants.{Yes as VerdictYes, No as VerdictNo, Open as VerdictOpen}
+
+-- a mark by the passes of the side that hunts: side 1 if the objective is reach
+unfoldable pub markNo : ℕ → ℕ → ℕ → ℕ
+markNo objective lower upper = cond (eqb lower 0) (cond (eqb upper 0) (cond (eqb objective 1) 0 2) 1) (cond (eqb objective 1) 2 0)
+
+-- a move that a plan may show, by the passes of its two states: to an earlier pass for one who hunts, and from outside to
+-- outside for one who flees
+unfoldable pub goodMove : Bool → ℕ → ℕ → Bool
+goodMove chase own next = cond chase (not (eqb next 0) && ltb next own) (eqb own 0 && eqb next 0)
+
+-- the lower of two numbers where the second is to be taken, and the first otherwise
+unfoldable pub lowerOf : ℕ → ℕ → Bool → ℕ
+lowerOf best to taken = cond taken (cond (ltb to best) to best) best
+
+-- the lowest good move of state s among the first k moves, if s is the side's
+unfoldable pub lowestGood : Game → ℕ → Bool → (ℕ → ℕ) → ℕ → ℕ → ℕ
+lowestGood g side chase row zero s = noMove
+lowestGood g side chase row (suc k) s =
+    let best = lowestGood g side chase row k s in
+    cond (eqb (fromAt g k) s) (lowerOf best (toAt g k) (eqb (turnAt g s) side && goodMove chase (row s) (row (toAt g k)))) best
+
+-- ## Rounds at work
+
+-- the goal of a game, as its hunter sees it: who hunts, and where to
+abbrev pub huntingSide : Game → Side
+huntingSide g = hunter (goalOf (g .objective))
+
+abbrev pub preyStates : Game → Set
+preyStates g = prey (goalOf (g .objective)) (targets g)
+
+-- what the hunting side surely brings about, and what it may
+abbrev pub lowerStates : Game → Set
+lowerStates g = lower (arenaOf g) (blockAt g) (huntingSide g) (preyStates g)
+
+abbrev pub upperStates : Game → Set
+upperStates g = upper (arenaOf g) (blockAt g) (huntingSide g) (preyStates g)
+
+-- the pass in which each state entered the one and the other, 0 where it did not
+unfoldable pub lowerRow : Game → List ℕ
+lowerRow g = fill (g .states) (stamp (insideStep (arenaOf g) (blockAt g) (huntingSide g)) (preyStates g) (g .states)) (zeros maxStates)
+
+unfoldable pub upperRow : Game → List ℕ
+upperRow g = fill (g .states) (stamp (meetsStep (arenaOf g) (blockAt g) (huntingSide g)) (preyStates g) (g .states)) (zeros maxStates)
+
+-- the mark of each state
+unfoldable pub markRow : Game → List ℕ
+markRow g = fill (g .states) (mark g) (zeros maxStates)
+
+-- a round that is worked out
+pub record Worked (r : Round) : Type 0 where
+  pub accepted : Accepted (r .game)
+  pub lower-is : r .lower ≡ lowerRow (r .game)
+  pub upper-is : r .upper ≡ upperRow (r .game)
+  pub marks-is : r .marks ≡ markRow (r .game)
+
+-- what a round says of its game, by its word
+abbrev pub decisionOf : Word → Game → Decision
+decisionOf YES g = Yes (stateNo (namedStart g))
+decisionOf NO g = No
+decisionOf OPEN g = Open
+
+-- the verdict of a decision after so many splits
+abbrev pub saidBy : Decision → ℕ → Verdict
+saidBy (Yes s) splits = VerdictYes s splits
+saidBy No splits = VerdictNo splits
+saidBy Open splits = VerdictOpen splits
+
+-- the round is open as yet
+abbrev pub openWord : Word → Bool
+openWord YES = false
+openWord NO = false
+openWord OPEN = true
+
+-- a run of which some splits were made before
+unfoldable pub after : ℕ → Run → Run
+after made r = record { splits = made + r .splits; last = r .last }
+
+-- ## The plan at work
+
+module _ (g : Game) (o : Goal) where
+  -- the rank of a state for the side that hunts: how many passes after the prey it entered
+  abbrev pub chaseRank : ℕ → ℕ
+  chaseRank t = rank (g .states) (insideStep (arenaOf g) (blockAt g) (hunter o)) (prey o (targets g)) t
+
+  -- the rule of a winner who hunts: to an earlier pass
+  unfoldable pub chaseRule : ℕ → ℕ
+  chaseRule s =
+      advice g (hunter o)
+      (λ t. lower (arenaOf g) (blockAt g) (hunter o) (prey o (targets g)) t && not (prey o (targets g) t))
+      (λ t. ltb (suc (chaseRank t)) (suc (chaseRank s))) s
+
+  -- the rule of a winner who is hunted: to where the hunter may not bring the play
+  unfoldable pub fleeRule : ℕ → ℕ
+  fleeRule s =
+      let safe = compl (upper (arenaOf g) (blockAt g) (hunter o) (prey o (targets g))) in
+      advice g (other (hunter o)) safe safe s
+
+-- the rule of the side that wins
+abbrev pub winnerRule : Game → Side → ℕ → ℕ
+winnerRule g i s = cond (same i (huntingSide g)) (chaseRule g (goalOf (g .objective)) s) (fleeRule g (goalOf (g .objective)) s)

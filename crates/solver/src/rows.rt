@@ -1,0 +1,105 @@
+// The rows at work: marks and block numbers, and the writing of a lent row.
+use game::Game;
+ghost use mathlib.Core.Path.{_≡_};
+ghost use mathlib.Core.Bool.{_&&_};
+ghost use Prim.Native.Nat.{_≤_};
+ghost use lib.ListN.{length, getD};
+ghost use lib.Dec.{leb};
+ghost use Rattle.arena.specs.Sets.{least};
+ghost use Rattle.game.specs.Limits.{maxStates};
+ghost use Rattle.game.specs.Rows.{fill, zeros};
+ghost use Rattle.game.specs.Game.{marked, blockAt, initials};
+ghost use Rattle.game.specs.Accepted.{Accepted};
+ghost use Rattle.solver.specs.Work.{markNo};
+
+// 2 for sure, 1 for open, 0 for never, by the passes of the hunting side: in a reach game it is side 1.
+fn mark_no(objective: u16, lower: u16, upper: u16) -> u16
+    ensures { λ r. ⌜ r ≡ markNo objective lower upper ⌝ }
+{
+    if lower != 0 {
+        return if objective == 1 { 2 } else { 0 };
+    }
+    if upper == 0 {
+        return if objective == 1 { 0 } else { 2 };
+    }
+    1
+}
+
+// The mark of each state.
+pub fn mark_row(
+    game: Game,
+    lower: [u16; Game::MAX_STATES],
+    upper: [u16; Game::MAX_STATES],
+) -> [u16; Game::MAX_STATES]
+    requires { ⌜ Accepted game ⌝ }
+    ensures { λ r. ⌜ r ≡ fill (game .states) (λ s. markNo (game .objective) (getD lower s 0) (getD upper s 0)) (zeros maxStates) ⌝ }
+{
+    let n = game.states;
+    let objective = game.objective;
+    let mut marks = [0u16; Game::MAX_STATES];
+    let mut s: usize = 0;
+    while s < n {
+        marks[s] = mark_no(objective, lower[s], upper[s]);
+        s += 1;
+    }
+    marks
+}
+
+fn is_initial(marks: u8) -> bool
+    ensures { λ r. ⌜ r ≡ marked 1 marks ⌝ }
+{
+    if marks == 1 { true } else { marks == 3 }
+}
+
+// An initial state with at least the mark that is wanted.
+fn is_start(marks: u8, mark: u16, wanted: u16) -> bool
+    ensures { λ r. ⌜ r ≡ (marked 1 marks && leb wanted mark) ⌝ }
+{
+    if is_initial(marks) {
+        return wanted <= mark;
+    }
+    false
+}
+
+// The lowest-numbered initial state with at least this mark, or the number of states where there is none.
+pub fn lowest_start(game: Game, marks: [u16; Game::MAX_STATES], wanted: u16) -> u16
+    requires { ⌜ Accepted game ⌝ }
+    ensures { λ r. ⌜ r ≡ least (game .states) (λ s. initials game s && leb wanted (getD marks s 0)) ⌝ }
+{
+    let n = game.states;
+    let mut s: usize = 0;
+    while s < n {
+        if is_start(game.marks[s], marks[s], wanted) {
+            return s as u16;
+        }
+        s += 1;
+    }
+    n as u16
+}
+
+// The number of each state's block.
+pub fn block_row(game: Game) -> [u16; Game::MAX_STATES]
+    requires { ⌜ Accepted game ⌝ }
+    ensures { λ r. ⌜ r ≡ fill (game .states) (blockAt game) (zeros maxStates) ⌝ }
+{
+    let n = game.states;
+    let mut blocks = [0u16; Game::MAX_STATES];
+    let mut s: usize = 0;
+    while s < n {
+        blocks[s] = game.block[s].0;
+        s += 1;
+    }
+    blocks
+}
+
+// Writes the first n places of a row that is lent. The rest keep their content.
+pub fn write_row(n: usize, values: [u16; Game::MAX_STATES], out: &mut [u16])
+    requires { ⌜ (n ≤ maxStates) × (maxStates ≤ length (now out)) ⌝ }
+    ensures { λ _. ⌜ now (out .exit) ≡ fill n (λ s. getD values s 0) (now (out .entry)) ⌝ }
+{
+    let mut s: usize = 0;
+    while s < n {
+        out[s] = values[s];
+        s += 1;
+    }
+}
