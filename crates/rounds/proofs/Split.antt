@@ -1,5 +1,5 @@
 -- The split of a block, as a sweep over the states makes it.
-use mathlib.Core.Path.{_≡_, refl}
+use mathlib.Core.Path.{_≡_, refl, ap}
 use mathlib.Core.Bool.{Bool, true, false, _&&_, cond, Bool·beq}
 use Prim.Native.Nat.{ℕ}
 use mathlib.Core.List.{List}
@@ -12,13 +12,14 @@ use Rattle.game.specs.declared.Game.{Game}
 use Rattle.blocks.specs.Blocks.{split}
 use Rattle.rounds.specs.Split.{withSplit}
 
--- the part that s goes to, by the lowest members of both parts
-pub split-is : (n : ℕ) (block : ℕ → ℕ) (b : ℕ) (C : Set) (s inner outer : ℕ)
+-- the block that s goes to, which a call gave by the lowest members of both parts
+pub split-is : (n : ℕ) (block : ℕ → ℕ) (b : ℕ) (C : Set) (s inner outer : ℕ) (r : BlockNo)
+    → r ≡ blockNo (cond (eqb (block s) b) (cond (C s) inner outer) (block s))
     → inner ≡ least n (λ t. eqb (block t) b && Bool·beq (C t) true)
     → outer ≡ least n (λ t. eqb (block t) b && Bool·beq (C t) false)
-    → cond (eqb (block s) b) (cond (C s) inner outer) (block s) ≡ split n block b C s
+    → r ≡ blockNo (split n block b C s)
 unfolding split
-split-is n block b C s inner outer p q = rw (p, q) (go (C s))
+split-is n block b C s inner outer r e p q = rw (e, p, q) (ap blockNo (go (C s)))
   where
     lowest : Bool → ℕ
     lowest x = least n (λ t. eqb (block t) b && Bool·beq (C t) x)

@@ -12,7 +12,7 @@ ghost use Rattle.arena.specs.Sets.{some, bit, least};
 ghost use Rattle.arena.specs.Game.{forced};
 ghost use Rattle.game.specs.Limits.{maxStates};
 ghost use Rattle.game.specs.Rows.{fill, zeros};
-ghost use Rattle.game.specs.Game.{knownTurn, marked, turnAt, blockAt, targets, blockNo};
+ghost use Rattle.game.specs.Game.{knownTurn, marked, blockAt, targets, blockNo};
 ghost use Rattle.game.specs.Arena.{sideOf, goalOf, arenaOf};
 ghost use Rattle.game.specs.Accepted.{Accepted};
 ghost use Rattle.blocks.specs.Hunt.{hunter, prey};
@@ -60,15 +60,14 @@ fn after_move(own: bool, into: bool, known: u8) -> u8
 }
 
 // Before any move is seen: a state of the side itself is not forced, and one of the other side is.
-fn opening_row(g: Game, side: u8) -> StateSet
-    requires { ⌜ Accepted g ⌝ }
-    ensures { λ r. ⌜ r ≡ fill (g .states) (λ s. bit (not (eqb (turnAt g s) side))) (zeros maxStates) ⌝ }
+fn opening_row(n: usize, turn: [u8; Game::MAX_STATES], side: u8) -> StateSet
+    requires { ⌜ n ≤ maxStates ⌝ }
+    ensures { λ r. ⌜ r ≡ fill n (λ s. bit (not (eqb (getD turn s 0) side))) (zeros maxStates) ⌝ }
 {
-    let n = g.states;
     let mut out = [0u8; Game::MAX_STATES];
     let mut s: usize = 0;
     while s < n {
-        out[s] = zero_if(g.turn[s] == side);
+        out[s] = zero_if(turn[s] == side);
         s += 1;
     }
     out
@@ -81,12 +80,13 @@ pub fn forced_step(g: Game, side: u8, row: PassRow) -> StateSet
     ensures { λ r. ⌜ r ≡ fill (g .states) (λ s. bit (forced (arenaOf g) (sideOf side) (isIn row) s)) (zeros maxStates) ⌝ }
 {
     let m = g.moves;
-    let mut out = opening_row(g, side);
+    let turn = g.turn;
+    let mut out = opening_row(g.states, turn, side);
     let mut k: usize = 0;
     while k < m {
         let f = g.from[k].0 as usize;
         let t = g.to[k].0 as usize;
-        out[f] = after_move(g.turn[f] == side, row[t] != 0, out[f]);
+        out[f] = after_move(turn[f] == side, row[t] != 0, out[f]);
         k += 1;
     }
     out

@@ -1,6 +1,6 @@
 -- `split_block` meets its contract: the places passed have the new blocks, the others the old ones.
 use Prim.Native.Nat.{_-_, _≤_, _<_}
-use mathlib.Core.Path.{_≡_, ap, _∙_}
+use mathlib.Core.Path.{_≡_}
 use native.Mathlib.Omega.{arith}
 use lib.ListN.{length, length-map}
 use Rattle.game.specs.Rows.{fill}
@@ -41,7 +41,7 @@ split-block-spec =
     let in-row : at-loop .loop .s < length (start .args .t1 .block) = omega (arith, simp length-map at (start .good .0 .1 .1 .1 .1 .1 .1 .1 .0 .1 .0 .1), start .pre .few-states) in (
       search sweep,
       fill-store _ _ _ in-row _ (at-loop .loop .inv .1) _
-          (c .part .ensures ∙ ap blockNo (split-is _ (blockAt (start .args .t1)) _ (ones (start .args .t3)) _ _ _ (second .before .lowest-member .ensures) (second .lowest-member2 .ensures))),
+          (split-is _ (blockAt (start .args .t1)) _ (ones (start .args .t3)) _ _ _ _ (c .part .ensures) (second .before .lowest-member .ensures) (second .lowest-member2 .ensures)),
     ))
     (λ c.
     let start = c .before .before .before .before .before in
