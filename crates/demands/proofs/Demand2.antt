@@ -20,7 +20,7 @@ use Rattle.decoding.specs.Decode.{gameOf}
 use Rattle.decoding.proofs.Accepted.{accepted-game}
 use Rattle.solver.specs.Run.{Word, YES, NO, OPEN}
 use Rattle.solver.specs.Plan.{mark, planned}
-use Rattle.solver.specs.Solve.{solveFault, namedStart, said, verdictIf, runOf, solveVerdict, solveMoves}
+use Rattle.solver.specs.Solve.{solveFault, namedStart, said, verdictIf, runOf, solveVerdict, solveMarks, solveMoves}
 use Rattle.demands.specs.Aims.{objectiveOf, Wins, Loses, PlanWins}
 use Rattle.demands.specs.Answers.{blocksOf, lastOf, wordOf, SomeStartWins, Promised, Made, Means}
 use Rattle.solver.proofs.Rounds.{says, accepted-live}
@@ -83,6 +83,13 @@ module _ (f : List ℕ) (taken : refusal f ≡ 0) (a : ℕ) where
         (λ e. back (λ g. Wins g s) (sure-mark (lastOf f a) last-ok s k e)),
         (λ e. back (λ g. Loses g s) (never-mark (lastOf f a) last-ok s k e)),
       )
+
+  -- the row of marks handed back holds those marks
+  pub marks-shown : (marks blocks moves : List ℕ) → solveFault f marks blocks moves ≡ 0 → (s : ℕ) → s < gameOf f .states
+      → (getD (solveMarks f a marks blocks moves) s 0 ≡ 2 → Wins (gameOf f) s) × (getD (solveMarks f a marks blocks moves) s 0 ≡ 0 → Loses (gameOf f) s)
+  unfolding solveMarks
+  marks-shown marks blocks moves none s l =
+      rw (none, fill-at (lastOf f a .states) (mark (lastOf f a)) marks s (rw (run-states a (gameOf f)) l)) (marks-right s l)
 
   -- 'The winner's plan is shown, and it wins', within states minus 1 moves where something is to be reached
   pub plan : (w : Word) → wordOf f a ≡ w → PlanWins w (gameOf f) (namedStart (lastOf f a)) (planned w (lastOf f a))

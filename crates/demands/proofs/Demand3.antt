@@ -1,10 +1,10 @@
 -- Demand 3, over every byte string that is not refused: the exchanged file beside the file.
-use Prim.Native.Nat.{ℕ, zero, suc, _<_}
+use Prim.Native.Nat.{ℕ, zero, suc, _≤_, _<_}
 use mathlib.Core.Path.{_≡_, refl, sym, ap, ap₂, _∙_, subst}
 use mathlib.Core.Bool.{_&&_}
 use mathlib.Core.Logic.{_↔_}
 use mathlib.Core.List.{List}
-use lib.ListN.{length, getD}
+use lib.ListN.{length, getD, take}
 use lib.Dec.{T, leb}
 use Rattle.arena.specs.Sets.{Set}
 use Rattle.game.specs.Limits.{maxStates}
@@ -17,8 +17,9 @@ use Rattle.file.specs.Fault.{unless, _then_}
 use Rattle.file.specs.Refusals.{refusal}
 use Rattle.decoding.specs.Decode.{gameOf}
 use Rattle.decoding.proofs.Accepted.{accepted-game}
-use Rattle.exchange.specs.Exchange.{exchangedGame, exchangedFile}
+use Rattle.exchange.specs.Exchange.{exchangedGame, exchangedFile, exchangeOutput}
 use Rattle.exchange.proofs.Accepted.{exchanged-accepted}
+use Rattle.exchange.proofs.Calls.{written}
 use Rattle.exchange.proofs.Game.{exchanged-game}
 use Rattle.solver.specs.Run.{knownStates, Word, YES, NO, OPEN, word, Run, run}
 use Rattle.solver.specs.Plan.{mark, planned}
@@ -150,3 +151,31 @@ module _ (f : List ℕ) (taken : refusal f ≡ 0) where
           ∙ fill-at (g .states) (mark (exchangedGame g)) marks s k
           ∙ mark-exchanged g last-ok s k
           ∙ ap tradeMark (sym (ap (λ e. getD (rowIf e (fill (g .states) (mark g) marks) marks) s 0) none ∙ fill-at (g .states) (mark g) marks s k))
+
+-- ## Through the call that writes the exchanged file
+
+module _ (f : List ℕ) (taken : refusal f ≡ 0) (out : List ℕ) (room : length f ≤ length out) where
+  -- the bytes that `exchange` writes into an output that is long enough
+  abbrev pub exchangedBy : List ℕ
+  exchangedBy = take (length f) (exchangeOutput f out)
+
+  -- 'The states side 1 can win are then exactly those it could not win before', of the bytes written
+  pub winners-traded-by : (s : ℕ) → s < gameOf f .states → Wins (gameOf exchangedBy) s ↔ (Wins (gameOf f) s → ⊥)
+  winners-traded-by s l = subst (λ (b : List ℕ). Wins (gameOf b) s ↔ (Wins (gameOf f) s → ⊥)) (sym (written f out taken room .1)) (winners-traded f taken s l)
+
+  -- the same splits in the same order, the same blocks and plan, YES and NO, sure and never traded, of the bytes written
+  pub run-traded-by : (start : ℕ) → SingleStart (gameOf f) start → (a : ℕ) (marks blocks moves : List ℕ)
+      → (runOf exchangedBy a ≡ tradeRun (runOf f a))
+      × (solveVerdict exchangedBy a marks blocks moves ≡ tradeVerdict start (solveVerdict f a marks blocks moves))
+      × (solveBlocks exchangedBy a marks blocks moves ≡ solveBlocks f a marks blocks moves)
+      × (solveMoves exchangedBy a marks blocks moves ≡ solveMoves f a marks blocks moves)
+      × (solveFault f marks blocks moves ≡ 0 → (s : ℕ) → s < gameOf f .states
+      → getD (solveMarks exchangedBy a marks blocks moves) s 0 ≡ tradeMark (getD (solveMarks f a marks blocks moves) s 0))
+  run-traded-by start single a marks blocks moves =
+      rw (written f out taken room .1) (
+        same-run f taken start single a,
+        verdict-traded f taken start single a marks blocks moves,
+        same-blocks f taken start single a marks blocks moves,
+        same-plan f taken start single a marks blocks moves,
+        marks-traded f taken start single a marks blocks moves,
+      )

@@ -1,3 +1,4 @@
+pub mod Demand1
 pub mod Plays
 pub mod Plans
 pub mod Strategies
