@@ -69,7 +69,7 @@ solveMoves f allowance marks blocks moves =
     let g = runOf f allowance .last in
     rowIf (solveFault f marks blocks moves) (fill (g .states) (planned (word g) g) moves) moves
 
--- 01, 'One round': the number that the paper gives each word in the rows of other calls, and the splits of each answer
+-- 01, 'What is handed back': the splits of each answer; a refusal has no count
 abbrev pub splitsOf : Verdict → ℕ
 splitsOf (Yes s n) = n
 splitsOf (No n) = n
