@@ -1,5 +1,6 @@
 // The game file: every refusal of 01, in its order.
 use game::Game;
+use game::has_mark;
 ghost use mathlib.Core.Path.{_≡_};
 ghost use Prim.Native.Nat.{_+_, _*_, _≤_, _<_};
 ghost use lib.ListN.{length};
@@ -220,13 +221,6 @@ fn moves_fault(file: &[u8], n: usize, m: usize) -> u8
         k += 1;
     }
     0
-}
-
-// The marks hold this one: 1 initial, 2 target.
-fn has_mark(mark: u8, marks: u8) -> bool
-    ensures { λ r. ⌜ r ≡ marked mark marks ⌝ }
-{
-    if marks == mark { true } else { marks == 3 }
 }
 
 // Some state is initial.

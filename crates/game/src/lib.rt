@@ -1,6 +1,6 @@
 // The game of 01: its numbers, its limits, and its rows.
 ghost use mathlib.Core.Path.{_≡_};
-ghost use Rattle.game.specs.Game.{emptyGame};
+ghost use Rattle.game.specs.Game.{marked, emptyGame};
 
 // The number of one state.
 pub struct StateNo(pub u16);
@@ -42,4 +42,11 @@ impl Game {
             to: [StateNo(0); Game::MAX_MOVES],
         }
     }
+}
+
+// The marks of a state hold this one: 1 initial, 2 target.
+pub fn has_mark(mark: u8, marks: u8) -> bool
+    ensures { λ r. ⌜ r ≡ marked mark marks ⌝ }
+{
+    if marks == mark { true } else { marks == 3 }
 }

@@ -3,6 +3,7 @@
 // set, and otherwise the pass in which it entered; pass 1 is the prey itself.
 use game::BlockNo;
 use game::Game;
+use game::has_mark;
 ghost use mathlib.Core.Path.{_≡_};
 ghost use mathlib.Core.Bool.{not, _&&_, cond, Bool·beq};
 ghost use Prim.Native.Nat.{_≤_};
@@ -207,18 +208,11 @@ pub fn hunting_side(g: Game) -> u8
     2
 }
 
-// The marks hold the target's.
-fn is_target(marks: u8) -> bool
-    ensures { λ r. ⌜ r ≡ marked 2 marks ⌝ }
-{
-    if marks == 2 { true } else { marks == 3 }
-}
-
 // 1 where the hunting side wants the play: in the target of a reach game, and outside it in a stay game.
 fn prey_no(objective: u16, marks: u8) -> u16
     ensures { λ r. ⌜ r ≡ bit (cond (eqb objective 1) (marked 2 marks) (not (marked 2 marks))) ⌝ }
 {
-    let target = is_target(marks);
+    let target = has_mark(2, marks);
     if (objective == 1) == target {
         return 1;
     }

@@ -1,5 +1,6 @@
 // The rows at work: marks and block numbers, and the writing of a lent row.
 use game::Game;
+use game::has_mark;
 ghost use mathlib.Core.Path.{_≡_};
 ghost use mathlib.Core.Bool.{_&&_};
 ghost use Prim.Native.Nat.{_≤_};
@@ -45,17 +46,11 @@ pub fn mark_row(
     marks
 }
 
-fn is_initial(marks: u8) -> bool
-    ensures { λ r. ⌜ r ≡ marked 1 marks ⌝ }
-{
-    if marks == 1 { true } else { marks == 3 }
-}
-
 // An initial state with at least the mark that is wanted.
 fn is_start(marks: u8, mark: u16, wanted: u16) -> bool
     ensures { λ r. ⌜ r ≡ (marked 1 marks && leb wanted mark) ⌝ }
 {
-    if is_initial(marks) {
+    if has_mark(1, marks) {
         return wanted <= mark;
     }
     false

@@ -10,5 +10,5 @@ prey-no-spec =
     tie.close
     (tie.spec
     (λ c κs. tt)
-    (λ c. chosen (eqb (c .before .before .args .objective) 1) _ _ true (c .before .is-target .ensures) (c .if1 .taken))
-    (λ c. chosen (eqb (c .before .before .args .objective) 1) _ _ false (c .before .is-target .ensures) (c .if1 .left)))
+    (λ c. chosen (eqb (c .before .before .args .objective) 1) _ _ true (c .before .has-mark .ensures) (c .if1 .taken))
+    (λ c. chosen (eqb (c .before .before .args .objective) 1) _ _ false (c .before .has-mark .ensures) (c .if1 .left)))

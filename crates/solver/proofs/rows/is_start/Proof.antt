@@ -9,5 +9,5 @@ is-start-spec =
     tie.close
     (tie.spec
     (λ c κs. search choices)
-    (λ c. rw (← c .before .is-initial .ensures) (search choices))
-    (λ c. rw (← c .before .is-initial .ensures) (search choices)))
+    (λ c. rw (← c .before .has-mark .ensures) (search choices))
+    (λ c. rw (← c .before .has-mark .ensures) (search choices)))
