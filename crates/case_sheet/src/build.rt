@@ -2,7 +2,7 @@
 // the last one target; each state has an equal share of the moves, to 0, 1, 2 and so on.
 use crate::print;
 use crate::show;
-use crate::show::fitting;
+use sheet_lines::fitting;
 ghost use Prim.Native.Nat.{_<_};
 
 pub fn long_files() {

@@ -1,6 +1,6 @@
 // The rest of a case's line: what the decoder and the exchange make of a file.
 use crate::print;
-ghost use Rattle.io.specs.Counts.{Counts};
+use sheet_lines::fitting;
 
 // What every output holds before a call. A place that holds it afterwards counts as untouched.
 const BLANK: u8 = 170;
@@ -95,13 +95,6 @@ fn untouched_in(file: &[u8], out: &mut [u8]) {
     } else {
         print::words(b", TOUCHED");
     }
-}
-
-// The size itself, or the length of `room` where that is less. With what it ensures, `&room[..r]` is proved with no proof file.
-pub fn fitting(size: usize, room: &[u8]) -> usize
-    ensures { λ r. ⌜ Counts r (now (room .entry)) ⌝ }
-{
-    if size < room.len() { size } else { room.len() }
 }
 
 fn one_less(size: usize) -> usize {

@@ -1,11 +1,11 @@
--- `case_sheet::sheet::read_digits` is safe and ends. The invariant: the bytes written are at most `count`, and `file` keeps its length.
+-- `sheet_lines::read_digits` is safe and ends. The invariant: the bytes written are at most `count`, and `file` keeps its length.
 -- The measure is what is left of `count`.
 use Prim.Native.Nat.{_-_, _≤_}
 use mathlib.Core.Path.{_≡_}
 use lib.ListN.{length}
 use borrow.Author.Needs.{needs}
-use Rattle.case_sheet.proofs.sheet.read_digits.Statement.{statement}
-use Rattle.case_sheet.proofs.sheet.read_digits.Tie as tie
+use Rattle.sheet_lines.proofs.read_digits.Statement.{statement}
+use Rattle.sheet_lines.proofs.read_digits.Tie as tie
 
 abbrev Inv-loop : tie.InvT-loop
 Inv-loop digits file₀ count at₀ file at = (at ≤ count) × (length file ≡ length file₀)

@@ -1,9 +1,9 @@
--- `case_sheet::sheet::find` meets its contract. The invariant: `at` lies between `from` and the length.
+-- `sheet_lines::find` meets its contract. The invariant: `at` lies between `from` and the length.
 use Prim.Native.Nat.{_-_, _≤_}
 use lib.ListN.{length}
 use borrow.Author.Needs.{needs}
-use Rattle.case_sheet.proofs.sheet.find.Statement.{statement}
-use Rattle.case_sheet.proofs.sheet.find.Tie as tie
+use Rattle.sheet_lines.proofs.find.Statement.{statement}
+use Rattle.sheet_lines.proofs.find.Tie as tie
 
 abbrev Inv-loop : tie.InvT-loop
 Inv-loop text from wanted at₀ at = (from ≤ at) × (at ≤ length text)
