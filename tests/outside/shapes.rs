@@ -3,24 +3,35 @@
 use crate::game::{Game, Objective, MAX_MOVES, MAX_STATES};
 use crate::random::Random;
 
-/// A game that is accepted. Most are small; a few have hundreds of states.
+/// A game that is accepted. Most are small; a few have hundreds of states, and a few of these need hundreds of splits.
 pub fn game(random: &mut Random) -> Game {
-    let states = match random.below(1000) {
-        0..=499 => random.between(1, 8),
-        500..=799 => random.between(9, 32),
-        800..=949 => random.between(33, 80),
-        950..=989 => random.between(81, 200),
-        990..=997 => random.between(201, MAX_STATES),
-        _ => MAX_STATES,
+    let game = match random.below(2000) {
+        0..=1 => chain(random.pick(&[200, 250, 300, MAX_STATES]), random),
+        2..=20 => chain(random.between(2, 100), random),
+        21..=900 => {
+            let states = size(random).min(160);
+            layered(states, random.pick(&[1, 1, 2, 3, 7]), random)
+        }
+        _ => mixed(size(random), random),
     };
-    let game = if random.chance(12) { peeled(states, random) } else { mixed(states, random) };
     if random.chance(50) { game.exchanged() } else { game }
+}
+
+fn size(random: &mut Random) -> usize {
+    match random.below(1000) {
+        0..=399 => random.between(1, 9),
+        400..=799 => random.between(10, 32),
+        800..=959 => random.between(33, 64),
+        960..=989 => random.between(65, 160),
+        990..=994 => random.between(161, MAX_STATES),
+        _ => MAX_STATES,
+    }
 }
 
 /// A small game, for strings that will be damaged.
 pub fn small(random: &mut Random) -> Game {
     let states = if random.chance(90) { random.between(1, 6) } else { random.between(7, 24) };
-    mixed(states, random)
+    if random.chance(40) { layered(states, 2, random) } else { mixed(states, random) }
 }
 
 /// A game with independently drawn turns, moves, marks and blocks.
@@ -34,22 +45,32 @@ fn mixed(states: usize, random: &mut Random) -> Game {
     Game { objective, turn, initial, target, block, next }
 }
 
-/// A chain to the target whose middle is one block, which is peeled state by state. Side 1 may also go back.
-fn peeled(states: usize, random: &mut Random) -> Game {
-    let last = states - 1;
+/// A chain to the target whose middle is one block, which is peeled state by state.
+fn chain(states: usize, random: &mut Random) -> Game {
+    let mut game = layered(states, 1, random);
+    game.block = grouped(&game.initial, &game.target, &vec![0; states]);
+    game
+}
+
+/// Layers that lead to the target in the last one. Side 1 may also go back, and now and then side 2 may.
+fn layered(states: usize, width: usize, random: &mut Random) -> Game {
     let turn = turns(states, random);
-    let back = random.pick(&[0, 30, 100]);
+    let back = [random.pick(&[0, 30, 100]), random.pick(&[0, 0, 0, 0, 3, 20])];
     let mut next = Vec::new();
     for s in 0..states {
-        let mut to = vec![(s + 1).min(last)];
-        if turn[s] == 1 && random.chance(back) {
+        let ahead = (s / width + 1) * width;
+        let forward = |random: &mut Random| (ahead + random.below(width)).min(states - 1);
+        let mut to: Vec<usize> = (0..random.between(1, 2)).map(|_| forward(random)).collect();
+        if random.chance(back[turn[s] as usize - 1]) {
             to.push(random.below(s + 1));
         }
         next.push(ascending(to));
     }
-    let initial: Vec<bool> = (0..states).map(|s| s == 0).collect();
-    let target: Vec<bool> = (0..states).map(|s| s == last).collect();
-    let block = grouped(&initial, &target, &vec![0; states]);
+    let starts = if random.chance(75) { 1 } else { random.between(1, width).min(states) };
+    let targets = random.between(1, width);
+    let initial: Vec<bool> = (0..states).map(|s| s < starts).collect();
+    let target: Vec<bool> = (0..states).map(|s| s + targets >= states).collect();
+    let block = blocks(&initial, &target, &turn, random);
     Game { objective: Objective::Reach, turn, initial, target, block, next }
 }
 
@@ -123,11 +144,11 @@ fn blocks(initial: &[bool], target: &[bool], turn: &[u8], random: &mut Random) -
     let states = initial.len();
     let classes = random.between(1, states);
     let run = random.between(1, states);
-    let class: Vec<usize> = match random.below(6) {
-        0..=1 => vec![0; states],
-        2 => turn.iter().map(|&t| t as usize).collect(),
-        3 => (0..states).collect(),
-        4 => (0..states).map(|_| random.below(classes)).collect(),
+    let class: Vec<usize> = match random.below(8) {
+        0..=3 => vec![0; states],
+        4 => turn.iter().map(|&t| t as usize).collect(),
+        5 => (0..states).collect(),
+        6 => (0..states).map(|_| random.below(classes)).collect(),
         _ => (0..states).map(|s| s / run).collect(),
     };
     grouped(initial, target, &class)

@@ -8,6 +8,7 @@ pub struct Tally {
     /// Games by objective and word: reach YES, NO, OPEN, then stay.
     words: [[u64; 4]; 2],
     splits: u64,
+    split_games: u64,
     most_splits: u16,
     states: usize,
     several_starts: u64,
@@ -20,6 +21,7 @@ impl Tally {
         let objective = (game.objective == Objective::Stay) as usize;
         self.words[objective][answer.word as usize] += 1;
         self.splits += answer.splits as u64;
+        self.split_games += (answer.splits > 0) as u64;
         self.most_splits = self.most_splits.max(answer.splits);
         self.states += game.states();
         self.several_starts += (game.starts().len() > 1) as u64;
@@ -34,7 +36,7 @@ impl Tally {
         let [reach, stay] = self.words;
         format!(
             "{} accepted: reach YES {} NO {} OPEN {}, stay YES {} NO {} OPEN {}; \
-             {} with several starts; {} states; {} splits, at most {} in a game",
+             {} with several starts; {} states; {} splits in {} games, at most {} in one",
             self.accepted(),
             reach[1],
             reach[2],
@@ -45,6 +47,7 @@ impl Tally {
             self.several_starts,
             self.states,
             self.splits,
+            self.split_games,
             self.most_splits
         )
     }
