@@ -38,8 +38,10 @@ impl<T: Copy + PartialEq> Lent<T> {
         &self.memory[self.guard..self.guard + self.length]
     }
 
-    fn lend(&mut self) -> &mut [T] {
-        &mut self.memory[self.guard..self.guard + self.length]
+    /// The pointer and the length that are handed over: NULL for a row without places.
+    fn lend(&mut self) -> (*mut T, usize) {
+        let row = &mut self.memory[self.guard..self.guard + self.length];
+        (if row.is_empty() { std::ptr::null_mut() } else { row.as_mut_ptr() }, row.len())
     }
 
     /// Whether everything but the row's first `written` places holds what it held before the call.
@@ -65,22 +67,27 @@ impl Solved {
     }
 }
 
+/// The pointer and the length of a file: NULL for an empty one.
+fn read(file: &[u8]) -> (*const u8, usize) {
+    (if file.is_empty() { std::ptr::null() } else { file.as_ptr() }, file.len())
+}
+
 /// Solves a file with rows of the given lengths (marks, blocks, moves). The file lies in memory that ends where it ends.
 pub fn solve(file: &[u8], lengths: [usize; 3], allowance: u16, random: &mut Random) -> Solved {
     let file: Box<[u8]> = file.into();
     let mut lent = |length| Lent::new(length, random, |bits| bits as u16);
     let [mut marks, mut blocks, mut moves] = lengths.map(&mut lent);
+    let (bytes, marks_row, blocks_row, moves_row) = (read(&file), marks.lend(), blocks.lend(), moves.lend());
     let value = unsafe {
-        let (marks, blocks, moves) = (marks.lend(), blocks.lend(), moves.lend());
         hvoyanur_solve(
-            file.as_ptr(),
-            file.len(),
-            marks.as_mut_ptr(),
-            marks.len(),
-            blocks.as_mut_ptr(),
-            blocks.len(),
-            moves.as_mut_ptr(),
-            moves.len(),
+            bytes.0,
+            bytes.1,
+            marks_row.0,
+            marks_row.1,
+            blocks_row.0,
+            blocks_row.1,
+            moves_row.0,
+            moves_row.1,
             allowance,
         )
     };
@@ -91,7 +98,7 @@ pub fn solve(file: &[u8], lengths: [usize; 3], allowance: u16, random: &mut Rand
 pub fn exchange(file: &[u8], length: usize, random: &mut Random) -> (u64, Lent<u8>) {
     let file: Box<[u8]> = file.into();
     let mut out = Lent::new(length, random, |bits| bits as u8);
-    let row = out.lend();
-    let value = unsafe { hvoyanur_exchange(file.as_ptr(), file.len(), row.as_mut_ptr(), row.len()) };
+    let (bytes, row) = (read(&file), out.lend());
+    let value = unsafe { hvoyanur_exchange(bytes.0, bytes.1, row.0, row.1) };
     (value, out)
 }
