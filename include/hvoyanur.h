@@ -53,8 +53,9 @@ uint64_t hvoyanur_solve(const uint8_t *file, size_t file_len,
                         uint16_t allowance);
 
 /* Writes the file of the exchanged game into the first bytes of `out`: turns flipped, the other states as target, reach
- * for stay and stay for reach. Returns 2^32 + the length written, which is `file_len`; or the refusal's number, 1 to 11,
- * and then `out` keeps its content. Refusal 1, `out` is shorter than the file, is tested last. */
+ * for stay and stay for reach; the rest of `out` keeps its content. Returns 2^32 + the length written, which is
+ * `file_len`; or the refusal's number, 1 to 11, and then all of `out` keeps its content. Refusal 1, `out` is shorter
+ * than the file, is tested last. */
 uint64_t hvoyanur_exchange(const uint8_t *file, size_t file_len, uint8_t *out, size_t out_len);
 
 /* The parts of what hvoyanur_solve returns. */

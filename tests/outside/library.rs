@@ -72,7 +72,7 @@ fn read(file: &[u8]) -> (*const u8, usize) {
     (if file.is_empty() { std::ptr::null() } else { file.as_ptr() }, file.len())
 }
 
-/// Solves a file with rows of the given lengths (marks, blocks, moves). The file lies in memory that ends where it ends.
+/// Solves a file with rows of the given lengths (marks, blocks, moves). The file ends where its memory ends.
 pub fn solve(file: &[u8], lengths: [usize; 3], allowance: u16, random: &mut Random) -> Solved {
     let file: Box<[u8]> = file.into();
     let mut lent = |length| Lent::new(length, random, |bits| bits as u16);

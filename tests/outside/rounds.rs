@@ -18,7 +18,8 @@ pub struct Answer {
     pub moves: Vec<u16>,
 }
 
-/// One round: for sure and for possible, the pass in which each state entered (reach) or dropped out (stay), 0 for not at all.
+/// One round: for sure and for possible, the pass in which each state entered (reach) or dropped out (stay), 0 for
+/// neither.
 struct Round {
     sure_pass: Vec<usize>,
     possible_pass: Vec<usize>,
