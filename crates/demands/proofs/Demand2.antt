@@ -21,13 +21,13 @@ use Rattle.decoding.proofs.Accepted.{accepted-game}
 use Rattle.solver.specs.Run.{Word, YES, NO, OPEN}
 use Rattle.solver.specs.Plan.{mark, planned}
 use Rattle.solver.specs.Solve.{solveFault, namedStart, said, verdictIf, runOf, solveVerdict, solveMarks, solveMoves}
-use Rattle.demands.specs.Aims.{objectiveOf, Wins, Loses, PlanWins}
+use Rattle.demands.specs.Aims.{objectiveOf, Wins, Loses, PlanWins, ByRow}
 use Rattle.demands.specs.Answers.{blocksOf, lastOf, wordOf, SomeStartWins, Promised, Made, Means}
 use Rattle.solver.proofs.Rounds.{says, accepted-live}
 use Rattle.solver.proofs.Runs.{yes-no, reblocked, run-kept, run-states, run-ended, splits-bound, never-open}
 use Rattle.demands.proofs.Plans.{plan-wins}
 use Rattle.demands.proofs.Verdicts.{sure-mark, never-mark, promised}
-use Rattle.demands.proofs.Strategies.{ByRow, rowStrategy, rowStrategy-takes, yes-by-row, no-by-row, same-row-wins}
+use Rattle.demands.proofs.Strategies.{rowStrategy, rowStrategy-takes, yes-by-row, no-by-row, same-row-wins}
 
 -- a call that meets no fault has met a file that is not refused
 pub not-refused : (f marks blocks moves : List ℕ) → solveFault f marks blocks moves ≡ 0 → refusal f ≡ 0

@@ -21,26 +21,18 @@ use Rattle.exchange.specs.Exchange.{exchangedGame, exchangedFile, exchangeOutpu
 use Rattle.exchange.proofs.Accepted.{exchanged-accepted}
 use Rattle.exchange.proofs.Calls.{written}
 use Rattle.exchange.proofs.Game.{exchanged-game}
-use Rattle.solver.specs.Run.{knownStates, Word, YES, NO, OPEN, word, Run, run}
+use Rattle.solver.specs.Run.{Word, YES, NO, OPEN, word, Run, run, round}
 use Rattle.solver.specs.Plan.{mark, planned}
 use Rattle.solver.specs.Solve.{solveFault, namedStart, said, verdictIf, rowIf, runOf, solveVerdict, solveMarks, solveBlocks, solveMoves}
 use Rattle.solver.specs.declared.Verdict.the-variants.{Yes}
 use Rattle.demands.specs.Aims.{Wins}
-use Rattle.demands.specs.Trades.{SingleStart, tradeWord, tradeMark, tradeRun, tradeVerdict}
-use Rattle.solver.proofs.Rounds.{borderOf, says}
-use Rattle.solver.proofs.Runs.{run-states, run-initials, round, round-accepted, run-ended}
-use Rattle.demands.proofs.Traded.{Agree}
+use Rattle.demands.specs.Trades.{SingleStart, tradeWord, tradeMark, tradeRun, tradeVerdict, SameRound}
+use Rattle.solver.proofs.Rounds.{says}
+use Rattle.solver.proofs.Runs.{run-states, run-initials, round-accepted, run-ended}
 use Rattle.demands.proofs.Exchanged.{known-exchanged, border-exchanged, mark-exchanged, plan-exchanged}
 use Rattle.demands.proofs.ExchangedRun.{wins-exchanged, round-exchanged, exchanged-single, word-exchanged, run-exchanged}
 
 -- ## One game and its exchange
-
--- a round of h does what the same round of g does: the same blocks, the same border block parted by the same set, and traded marks
-pub record SameRound (g h : Game) : Type 0 where
-  pub blocks : h .block ≡ g .block
-  pub border : borderOf h ≡ borderOf g
-  pub parts : Agree (g .states) (knownStates h) (knownStates g)
-  pub marks : (s : ℕ) → s < g .states → mark h s ≡ tradeMark (mark g s)
 
 -- a game's exchange does what the game does
 same-round : (g : Game) → Accepted g → SameRound g (exchangedGame g)

@@ -15,13 +15,9 @@ use Rattle.arena.proofs.Plays.{outcome-start, outcome-play, outcome-mine, outco
 use Rattle.arena.proofs.Win.{opposed}
 use Rattle.solver.specs.Run.{Word, YES, NO}
 use Rattle.solver.specs.Plan.{noMove}
-use Rattle.demands.specs.Aims.{winner, Met, Obeys, Advised, WinningPlan}
+use Rattle.demands.specs.Aims.{winner, Met, Obeys, Advised, WinningPlan, ByRow}
 
 -- ## The strategy of a row
-
--- a strategy that takes the move of the row wherever there is one
-abbrev pub ByRow : (g : Arena) (i : Side) → (ℕ → ℕ) → Strategy g i → Type 0
-ByRow g i row σ = (h : List ℕ) (s : ℕ) → s < g .size → (row s ≡ noMove → ⊥) → σ .next h s ≡ row s
 
 module _ (g : Arena) (live : Live g) (i : Side) (row : ℕ → ℕ)
     (legal : (s : ℕ) → s < g .size → (row s ≡ noMove → ⊥) → Advised g s (row s)) where

@@ -1,10 +1,11 @@
 -- The words in which demand 2 is stated: who wins a game, what the winner is after, and what it is to follow a row of moves.
 use Prim.Native.Nat.{ℕ, suc, _-_, _≤_, _<_}
 use mathlib.Core.Path.{_≡_}
+use mathlib.Core.List.{List}
 use lib.Dec.{T}
 use Rattle.arena.specs.Sets.{Set, compl}
 use Rattle.arena.specs.Game.{Side, one, two, Game as Arena, mine}
-use Rattle.arena.specs.Play.{Play}
+use Rattle.arena.specs.Play.{Strategy, Play}
 use Rattle.arena.specs.Win.{Objective, Stay, Goal, toReach, toStay, swapGoal, objective, Winning, Spoils}
 use Rattle.game.specs.Game.{initials, targets}
 use Rattle.game.specs.Arena.{goalOf, arenaOf}
@@ -87,3 +88,7 @@ pub record WinningPlan (w : Word) (g : Arena) (o : Goal) (starts A : Set) (named
 -- the same of the game that rows say
 abbrev pub PlanWins : Word → Game → ℕ → (ℕ → ℕ) → Type 0
 PlanWins w g named row = WinningPlan w (arenaOf g) (goalOf (g .objective)) (initials g) (targets g) named row
+
+-- demand 2, 'The winner's plan is shown': a strategy that takes the row's move wherever there is one
+abbrev pub ByRow : (g : Arena) (i : Side) → (ℕ → ℕ) → Strategy g i → Type 0
+ByRow g i row σ = (h : List ℕ) (s : ℕ) → s < g .size → (row s ≡ noMove → ⊥) → σ .next h s ≡ row s

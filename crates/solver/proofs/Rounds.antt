@@ -18,12 +18,8 @@ use Rattle.blocks.specs.Round.{undecided, borderBlock}
 use Rattle.blocks.proofs.Blocks.{Named}
 use Rattle.blocks.proofs.Border.{LowestBorder, border-splits, border-block}
 use Rattle.blocks.proofs.Split.{count-cong, split-finer, split-named, split-count}
-use Rattle.solver.specs.Run.{sureStates, possibleStates, knownStates, Word, YES, NO, OPEN, word, splitGame}
+use Rattle.solver.specs.Run.{sureStates, possibleStates, knownStates, borderOf, Word, YES, NO, OPEN, word, splitGame}
 use Rattle.solver.specs.Solve.{namedStart}
-
--- the block that is split where a game is open
-abbrev pub borderOf : Game → ℕ
-borderOf g = borderBlock (arenaOf g) (blockAt g) (goalOf (g .objective)) (targets g)
 
 -- the open states of a game
 abbrev pub openStates : Game → Set

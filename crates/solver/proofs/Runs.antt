@@ -14,8 +14,8 @@ use Rattle.game.specs.declared.Game.{Game}
 use Rattle.blocks.specs.Blocks.{blockCount}
 use Rattle.blocks.proofs.Border.{LowestBorder}
 use Rattle.blocks.proofs.Split.{blockCount-le}
-use Rattle.solver.specs.Run.{knownStates, Word, YES, NO, OPEN, word, splitGame, Run, oneMore, ended, ifOpen, run}
-use Rattle.solver.proofs.Rounds.{borderOf, open-border-block, open-splits, split-accepted, split-one-more}
+use Rattle.solver.specs.Run.{knownStates, borderOf, round, Word, YES, NO, OPEN, word, splitGame, Run, oneMore, ended, ifOpen, run}
+use Rattle.solver.proofs.Rounds.{open-border-block, open-splits, split-accepted, split-one-more}
 
 -- ## What a run keeps
 
@@ -76,11 +76,6 @@ module _ (a : ℕ) (g : Game) where
   run-arena = ap arenaOf (run-kept a g)
 
 -- ## The rounds
-
--- the game of the round after k splits
-unfoldable pub round : ℕ → Game → Game
-round zero g = g
-round (suc k) g = round k (splitGame g)
 
 -- the next round's game is this round's, split
 pub round-next : (k : ℕ) (g : Game) → round (suc k) g ≡ splitGame (round k g)

@@ -35,9 +35,9 @@ use Rattle.rounds.specs.declared.Border.the-variants.{At, Nothing}
 use Rattle.rounds.proofs.Stamp.{passes-from}
 use Rattle.rounds.proofs.Joining.{joining-mono}
 use Rattle.rounds.proofs.RowSets.{bordering-sets, ones-row, split-cong}
-use Rattle.solver.specs.Run.{knownStates, OPEN, word, splitGame}
+use Rattle.solver.specs.Run.{knownStates, borderOf, OPEN, word, splitGame}
 use Rattle.solver.specs.Work.{huntingSide, preyStates, lowerStates, upperStates, lowerRow, upperRow}
-use Rattle.solver.proofs.Rounds.{borderOf, open-border-block}
+use Rattle.solver.proofs.Rounds.{open-border-block}
 use Rattle.solver.proofs.Marks.{in-lower, in-upper}
 
 -- ## The rows of passes

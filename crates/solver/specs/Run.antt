@@ -19,6 +19,10 @@ possibleStates g = possible (arenaOf g) (blockAt g) (goalOf (g .objective)) (tar
 abbrev pub knownStates : Game → Set
 knownStates g = known (arenaOf g) (blockAt g) (goalOf (g .objective)) (targets g)
 
+-- 01, 'One round': the lowest-numbered border block
+abbrev pub borderOf : Game → ℕ
+borderOf g = borderBlock (arenaOf g) (blockAt g) (goalOf (g .objective)) (targets g)
+
 -- 01, 'One round': the verdict's words
 pub data Word : Type 0 where
   YES NO OPEN : Word
@@ -32,14 +36,13 @@ word g =
 -- 01, 'One round': the game with its lowest-numbered border block split
 unfoldable pub splitGame : Game → Game
 splitGame g =
-    let b = borderBlock (arenaOf g) (blockAt g) (goalOf (g .objective)) (targets g) in
     record {
       states = g .states;
       moves = g .moves;
       objective = g .objective;
       turn = g .turn;
       marks = g .marks;
-      block = fill (g .states) (λ s. blockNo (split (g .states) (blockAt g) b (knownStates g) s)) (g .block);
+      block = fill (g .states) (λ s. blockNo (split (g .states) (blockAt g) (borderOf g) (knownStates g) s)) (g .block);
       from = g .from;
       to = g .to;
     }
@@ -67,3 +70,8 @@ ifOpen OPEN more here = more
 unfoldable pub run : ℕ → Game → Run
 run zero g = ended g
 run (suc left) g = let more = oneMore (run left (splitGame g)) in ifOpen (word g) more (ended g)
+
+-- 01, 'One round': the game of the round after k splits
+unfoldable pub round : ℕ → Game → Game
+round zero g = g
+round (suc k) g = round k (splitGame g)
