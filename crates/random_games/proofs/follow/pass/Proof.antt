@@ -1,0 +1,30 @@
+-- `random_games::follow::pass` is safe and ends. The invariant: `sheet` keeps its length.
+use mathlib.Core.Path.{_≡_}
+use lib.ListN.{length}
+use borrow.Author.Needs.{needs}
+use Rattle.random_games.proofs.follow.pass.Statement.{statement}
+use Rattle.random_games.proofs.follow.pass.Tie as tie
+
+abbrev Inv-loop : tie.InvT-loop
+Inv-loop sheet₀ changed₀ left₀ sheet changed left = length sheet ≡ length sheet₀
+
+abbrev μ-loop : tie.MeasureT-loop
+μ-loop sheet₀ changed₀ left₀ sheet changed left = left
+
+pub pass-spec : {M : Type 1} → statement M
+pass-spec =
+    tie.close
+    (tie.spec Inv-loop μ-loop
+    (λ c κs. search needs)
+    (λ c. search needs)
+    (λ c. search needs)
+    (λ c κs. search needs)
+    (λ c κs. search needs)
+    (λ c κs. search needs)
+    (λ c κs. search needs)
+    (λ c. search needs)
+    (λ c. search needs)
+    (λ c. search needs)
+    (λ c. search needs)
+    (λ c. search needs)
+    (λ c. search needs))

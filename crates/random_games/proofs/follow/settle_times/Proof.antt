@@ -1,0 +1,28 @@
+-- `random_games::follow::settle_times` is safe and ends. The invariant: `sheet` keeps its length.
+use Prim.Native.Nat.{_-_}
+use mathlib.Core.Path.{_≡_}
+use lib.ListN.{length}
+use borrow.Author.Needs.{needs}
+use Rattle.random_games.proofs.follow.settle_times.Statement.{statement}
+use Rattle.random_games.proofs.follow.settle_times.Tie as tie
+
+abbrev Inv-loop : tie.InvT-loop
+Inv-loop sheet₀ states passes₀ sheet passes = length sheet ≡ length sheet₀
+
+abbrev μ-loop : tie.MeasureT-loop
+μ-loop sheet₀ states passes₀ sheet passes = states - passes
+
+pub settle-times-spec : {M : Type 1} → statement M
+settle-times-spec =
+    tie.close
+    (tie.spec Inv-loop μ-loop
+    (λ c κs. search needs)
+    (λ c. search needs)
+    (λ c κs. search needs)
+    (λ c. search needs)
+    (λ c. search needs)
+    (λ c. search needs)
+    (λ c. search needs)
+    (λ c. search needs)
+    (λ c. search needs)
+    (λ c. search needs))

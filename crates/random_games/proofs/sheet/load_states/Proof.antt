@@ -1,0 +1,35 @@
+-- `random_games::sheet::load_states` is safe and ends. The invariant: `sheet` keeps its length.
+use Prim.Native.Nat.{_-_}
+use mathlib.Core.Path.{_≡_}
+use lib.ListN.{length}
+use borrow.Author.Needs.{needs}
+use Rattle.random_games.proofs.sheet.load_states.Statement.{statement}
+use Rattle.random_games.proofs.sheet.load_states.Tie as tie
+
+abbrev Inv-loop : tie.InvT-loop
+Inv-loop sheet₀ game states state₀ sheet state = length sheet ≡ length sheet₀
+
+abbrev μ-loop : tie.MeasureT-loop
+μ-loop sheet₀ game states state₀ sheet state = states - state
+
+pub load-states-spec : {M : Type 1} → statement M
+load-states-spec =
+    tie.close
+    (tie.spec Inv-loop μ-loop
+    (λ c κs. search needs)
+    (λ c. search needs)
+    (λ c. search needs)
+    (λ c. search needs)
+    (λ c. search needs)
+    (λ c κs. search needs)
+    (λ c. search needs)
+    (λ c. search needs)
+    (λ c κs. search needs)
+    (λ c. search needs)
+    (λ c. search needs)
+    (λ c κs. search needs)
+    (λ c. search needs)
+    (λ c. search needs)
+    (λ c. search needs)
+    (λ c. search needs)
+    (λ c. search needs))
