@@ -1,242 +1,187 @@
-// What was counted over all games, and how it is printed.
+// What is counted over all games, and how it is printed.
+use crate::examine;
+use crate::follow;
+use crate::shape::Shape;
+use crate::sheet;
+use crate::sheet::Sheet;
+use crate::sheet::head;
+use crate::sheet::how_many;
+use crate::sheet::one_if;
 use libc::STDOUT_FILENO;
 ghost use mathlib.Core.Path.{_≡_};
 ghost use lib.ListN.{length};
 
-// Games of each family, one place for each, from 0 on.
-pub const FAMILIES: usize = 7;
+// The places of the counts. The first 7 are the games of each family. Then comes what the games are like.
+const GAMES: usize = 7;
 
-// What the games are like, and what the solver said of them.
-pub const GAMES: usize = 7;
+const REACH: usize = 8;
 
-pub const REACH: usize = 8;
+const ONE_START: usize = 9;
 
-pub const ONE_START: usize = 9;
+const EMPTY_TARGET: usize = 10;
 
-pub const EMPTY_TARGET: usize = 10;
+const FULL_TARGET: usize = 11;
 
-pub const FULL_TARGET: usize = 11;
+const ONE_BLOCK_A_CLASS: usize = 12;
 
-pub const ONE_BLOCK_A_CLASS: usize = 12;
+const EACH_A_BLOCK: usize = 13;
 
-pub const EACH_A_BLOCK: usize = 13;
+const STATES: usize = 14;
 
-pub const STATES: usize = 14;
+const MOVES: usize = 15;
 
-pub const MOVES: usize = 15;
+// What came out. Of `MOST_SPLITS` and `LONGEST` the largest is kept, and not the sum.
+const WINNERS: usize = 16;
 
-pub const WINNING: usize = 16;
+const SAID_YES: usize = 17;
 
-pub const SAID_YES: usize = 17;
+const SAID_NO: usize = 18;
 
-pub const SAID_NO: usize = 18;
+const SAID_OPEN: usize = 19;
 
-pub const SAID_OPEN: usize = 19;
+const SPLITS: usize = 20;
 
-pub const SPLITS: usize = 20;
+const MOST_SPLITS: usize = 21;
 
-pub const MOST_SPLITS: usize = 21;
+const LONGEST: usize = 22;
 
-pub const LONGEST: usize = 22;
+// How often each check failed: those of a run, which are made of the game and of the exchanged game, and those that compare the two.
+const CHECKS: usize = 23;
 
-pub const RUNS: usize = 23;
+const EXCHANGE_CHECKS: usize = 37;
 
-pub const PLANS: usize = 24;
-
-pub const COMPARED: usize = 25;
-
-// Checks that failed.
-pub const FIRST_CHECK: usize = 26;
-
-pub const REFUSED: usize = 26;
-
-pub const VERDICT: usize = 27;
-
-pub const NAMED_START: usize = 28;
-
-pub const MARKS: usize = 29;
-
-pub const ADVICE_PLACE: usize = 30;
-
-pub const ADVICE_MOVE: usize = 31;
-
-pub const PLAN_STUCK: usize = 32;
-
-pub const PLAN_LATE: usize = 33;
-
-pub const PLAN_BROKEN: usize = 34;
-
-pub const SPLITS_MANY: usize = 35;
-
-pub const SPLITS_BLOCKS: usize = 36;
-
-pub const BLOCKS: usize = 37;
-
-pub const OPEN_EARLY: usize = 38;
-
-pub const OPEN_NEEDLESS: usize = 39;
-
-pub const TOUCHED: usize = 40;
-
-pub const EXCHANGE: usize = 41;
-
-pub const EXCHANGE_BACK: usize = 42;
-
-pub const EXCHANGED_WINNERS: usize = 43;
-
-pub const EXCHANGED_VERDICT: usize = 44;
-
-pub const EXCHANGED_SPLITS: usize = 45;
-
-pub const EXCHANGED_BLOCKS: usize = 46;
-
-pub const EXCHANGED_MOVES: usize = 47;
-
-pub const EXCHANGED_MARKS: usize = 48;
-
-pub const END: usize = 49;
-
-pub fn room() -> [u64; 49]
-    ensures { λ r. ⌜ 49 ≡ length r ⌝ }
+pub fn room() -> [u64; 45]
+    ensures { λ r. ⌜ 45 ≡ length r ⌝ }
 {
-    [0; 49]
+    [0; 45]
 }
 
-pub fn add(counts: &mut [u64], which: usize, amount: u64) {
-    if which < counts.len() {
-        counts[which] = std::num::wrapping_add_u64(counts[which], amount);
+// Counts a game, whose sheet is `one`; the exchanged game's is `other`.
+pub fn count_game(counts: &mut [u64], shape: Shape, one: &Sheet, other: &Sheet) {
+    let mut which = 0;
+    while which < counts.len() {
+        let amount = amount_of(which, shape, one, other);
+        counts[which] = with_more(counts[which], which, amount);
+        report(which, amount, shape.game);
+        which += 1;
     }
 }
 
-// Counts one where it is true.
-pub fn add_if(counts: &mut [u64], which: usize, truth: bool) {
-    if truth {
-        add(counts, which, 1);
+fn with_more(count: u64, which: usize, amount: u16) -> u64 {
+    let more = amount as u64;
+    match which {
+        MOST_SPLITS => if count < more { more } else { count },
+        LONGEST => if count < more { more } else { count },
+        _ => std::num::wrapping_add_u64(count, more),
     }
 }
 
-// Keeps the largest amount.
-pub fn most(counts: &mut [u64], which: usize, amount: u64) {
-    if which < counts.len() {
-        if counts[which] < amount {
-            counts[which] = amount;
-        }
-    }
-}
-
-// Counts a check that failed, and prints its name and the game's number.
-pub fn claim(counts: &mut [u64], which: usize, game: u64, holds: bool) {
-    if holds {
+// Names a check that failed and the game's number.
+fn report(which: usize, amount: u16, game: u64) {
+    if which < CHECKS {
         return;
     }
-    add(counts, which, 1);
+    if amount == 0 {
+        return;
+    }
     io::write_all(STDOUT_FILENO, b"game ");
     io::print_decimal(STDOUT_FILENO, game);
     io::write_all(STDOUT_FILENO, b": ");
-    name(which);
-    io::write_all(STDOUT_FILENO, b"\n");
+    print_line(which, amount as u64);
+}
+
+// What a game adds to a count.
+fn amount_of(which: usize, shape: Shape, one: &Sheet, other: &Sheet) -> u16 {
+    if which < GAMES {
+        return one_if(shape.family as usize == which);
+    }
+    if which < WINNERS {
+        return amount_of_kind(which, shape, one);
+    }
+    if which < CHECKS {
+        return amount_of_outcome(which, one);
+    }
+    let failed = one_if(!examine::holds(one, other, which - CHECKS));
+    if which < EXCHANGE_CHECKS {
+        failed + one_if(!examine::holds(other, one, which - CHECKS))
+    } else {
+        failed
+    }
+}
+
+fn amount_of_kind(which: usize, shape: Shape, one: &Sheet) -> u16 {
+    let states = head(one, sheet::STATES);
+    match which {
+        GAMES => 1,
+        REACH => one_if(shape.objective == 1),
+        ONE_START => one_if(how_many(one, sheet::STARTS) == 1),
+        EMPTY_TARGET => one_if(how_many(one, sheet::TARGET) == 0),
+        FULL_TARGET => one_if(how_many(one, sheet::TARGET) == states),
+        ONE_BLOCK_A_CLASS => one_if(shape.colours == 1),
+        EACH_A_BLOCK => one_if(shape.colours == 0),
+        STATES => states,
+        MOVES => sheet::at(one, sheet::FIRST, states),
+        _ => 0,
+    }
+}
+
+fn amount_of_outcome(which: usize, one: &Sheet) -> u16 {
+    let word = head(one, sheet::WORD);
+    match which {
+        WINNERS => how_many(one, sheet::WINNERS),
+        SAID_YES => one_if(word == sheet::YES),
+        SAID_NO => one_if(word == sheet::NO),
+        SAID_OPEN => one_if(word == sheet::OPEN),
+        SPLITS => head(one, sheet::SPLITS),
+        MOST_SPLITS => head(one, sheet::SPLITS),
+        LONGEST => follow::longest(one),
+        _ => 0,
+    }
 }
 
 // One line for each count: its name and its number.
 pub fn print(counts: &[u64]) {
     let mut which = 0;
     while which < counts.len() {
-        name(which);
-        io::write_all(STDOUT_FILENO, b" ");
-        io::print_decimal(STDOUT_FILENO, counts[which]);
-        io::write_all(STDOUT_FILENO, b"\n");
+        print_line(which, counts[which]);
         which += 1;
     }
 }
 
-fn name(which: usize) {
-    if which < FAMILIES {
-        family_name(which);
-        return;
-    }
-    if which < FIRST_CHECK {
-        kind_name(which);
-        return;
-    }
-    if which < EXCHANGE {
-        check_name(which);
-        return;
-    }
-    exchange_name(which);
+fn print_line(which: usize, count: u64) {
+    print_name(which);
+    io::write_all(STDOUT_FILENO, b" ");
+    io::print_decimal(STDOUT_FILENO, count);
+    io::write_all(STDOUT_FILENO, b"\n");
 }
 
-fn family_name(which: usize) {
-    match which {
-        0 => io::write_all(STDOUT_FILENO, b"tiny games"),
-        1 => io::write_all(STDOUT_FILENO, b"sparse games"),
-        2 => io::write_all(STDOUT_FILENO, b"dense games"),
-        3 => io::write_all(STDOUT_FILENO, b"wide games"),
-        4 => io::write_all(STDOUT_FILENO, b"chains"),
-        5 => io::write_all(STDOUT_FILENO, b"folded chains"),
-        _ => io::write_all(STDOUT_FILENO, b"full games"),
-    }
-    ;
+// The names of the counts, in the order of their places.
+fn print_name(which: usize) {
+    let names = b"tiny games;sparse games;dense games;wide games;chains;folded chains;full games;\
+        games in all;games of reach;games with one start;games with an empty target;games with a full target;\
+        games with one block for each of the marks;games with each state a block;states;moves;\
+        winning states;said YES;said NO;said OPEN;splits;most splits in one game;most moves of a hunt;\
+        files refused;verdicts wrong;named starts wrong;marks wrong;advice missing or not due;advice that is no move;\
+        plans that come too late or never;plans that let the other side have its way;\
+        splits too many;splits not the blocks won;blocks wrong;\
+        open with splits left;open with splits enough;later places touched;\
+        exchanges refused or of another length;exchanges that do not lead back;exchanged winners wrong;\
+        exchanged verdicts wrong;exchanged splits wrong;exchanged blocks wrong;exchanged moves wrong;\
+        exchanged marks wrong";
+    print_part(names, which);
 }
 
-fn kind_name(which: usize) {
-    match which {
-        GAMES => io::write_all(STDOUT_FILENO, b"games in all"),
-        REACH => io::write_all(STDOUT_FILENO, b"games of reach"),
-        ONE_START => io::write_all(STDOUT_FILENO, b"games with one start"),
-        EMPTY_TARGET => io::write_all(STDOUT_FILENO, b"games with an empty target"),
-        FULL_TARGET => io::write_all(STDOUT_FILENO, b"games with a full target"),
-        ONE_BLOCK_A_CLASS => io::write_all(
-            STDOUT_FILENO,
-            b"games with one block for each of the marks",
-        ),
-        EACH_A_BLOCK => io::write_all(STDOUT_FILENO, b"games with each state a block"),
-        STATES => io::write_all(STDOUT_FILENO, b"states"),
-        MOVES => io::write_all(STDOUT_FILENO, b"moves"),
-        WINNING => io::write_all(STDOUT_FILENO, b"winning states"),
-        SAID_YES => io::write_all(STDOUT_FILENO, b"said YES"),
-        SAID_NO => io::write_all(STDOUT_FILENO, b"said NO"),
-        SAID_OPEN => io::write_all(STDOUT_FILENO, b"said OPEN"),
-        SPLITS => io::write_all(STDOUT_FILENO, b"splits"),
-        MOST_SPLITS => io::write_all(STDOUT_FILENO, b"most splits in one game"),
-        LONGEST => io::write_all(STDOUT_FILENO, b"longest hunt"),
-        RUNS => io::write_all(STDOUT_FILENO, b"runs examined"),
-        PLANS => io::write_all(STDOUT_FILENO, b"plans followed"),
-        _ => io::write_all(STDOUT_FILENO, b"runs compared with the exchanged run"),
+// Prints the part of this number; a semicolon ends each part but the last.
+fn print_part(text: &[u8], number: usize) {
+    let mut part: usize = 0;
+    let mut at = 0;
+    while at < text.len() {
+        let next = at + 1;
+        if text[at] == b';' {
+            part = std::num::wrapping_add_usize(part, 1);
+        } else if part == number {
+            io::write_all(STDOUT_FILENO, &text[at..next]);
+        }
+        at = next;
     }
-    ;
-}
-
-fn check_name(which: usize) {
-    match which {
-        REFUSED => io::write_all(STDOUT_FILENO, b"files refused"),
-        VERDICT => io::write_all(STDOUT_FILENO, b"verdicts wrong"),
-        NAMED_START => io::write_all(STDOUT_FILENO, b"named starts wrong"),
-        MARKS => io::write_all(STDOUT_FILENO, b"marks wrong"),
-        ADVICE_PLACE => io::write_all(STDOUT_FILENO, b"advice missing or not due"),
-        ADVICE_MOVE => io::write_all(STDOUT_FILENO, b"advice that is no move"),
-        PLAN_STUCK => io::write_all(STDOUT_FILENO, b"plans that leave the winner without advice"),
-        PLAN_LATE => io::write_all(STDOUT_FILENO, b"plans that come too late or never"),
-        PLAN_BROKEN => io::write_all(STDOUT_FILENO, b"plans that let the other side have its way"),
-        SPLITS_MANY => io::write_all(STDOUT_FILENO, b"splits too many"),
-        SPLITS_BLOCKS => io::write_all(STDOUT_FILENO, b"splits not the blocks won"),
-        BLOCKS => io::write_all(STDOUT_FILENO, b"blocks wrong"),
-        OPEN_EARLY => io::write_all(STDOUT_FILENO, b"open with splits left"),
-        OPEN_NEEDLESS => io::write_all(STDOUT_FILENO, b"open with splits enough"),
-        _ => io::write_all(STDOUT_FILENO, b"later places touched"),
-    }
-    ;
-}
-
-fn exchange_name(which: usize) {
-    match which {
-        EXCHANGE => io::write_all(STDOUT_FILENO, b"exchanges refused or of another length"),
-        EXCHANGE_BACK => io::write_all(STDOUT_FILENO, b"exchanges that do not lead back"),
-        EXCHANGED_WINNERS => io::write_all(STDOUT_FILENO, b"exchanged winners wrong"),
-        EXCHANGED_VERDICT => io::write_all(STDOUT_FILENO, b"exchanged verdicts wrong"),
-        EXCHANGED_SPLITS => io::write_all(STDOUT_FILENO, b"exchanged splits wrong"),
-        EXCHANGED_BLOCKS => io::write_all(STDOUT_FILENO, b"exchanged blocks wrong"),
-        EXCHANGED_MOVES => io::write_all(STDOUT_FILENO, b"exchanged moves wrong"),
-        _ => io::write_all(STDOUT_FILENO, b"exchanged marks wrong"),
-    }
-    ;
 }

@@ -2,37 +2,38 @@
 // Side 1 hunts for the target in reach, and side 2 for the states outside it in stay. If the winner hunts, the play must come to
 // such a state; otherwise it must never come to one.
 use crate::sheet;
-use crate::sheet::NONE;
-use crate::sheet::ORDER;
+use crate::sheet::FIRST;
 use crate::sheet::SAID_MOVE;
-use crate::sheet::SEEN;
+use crate::sheet::Sheet;
 use crate::sheet::TIME;
+use crate::sheet::TURN;
+use crate::sheet::at;
+use crate::sheet::head;
+
+// Longer than any plan takes.
+const TOO_LONG: u16 = 1000;
 
 // Whether the state is one that the hunting side wants to come to.
-pub fn is_prey(sheet: &[u16], state: u16) -> bool {
-    sheet::is_target(sheet, state) == (hunter(sheet) == 1)
-}
-
-// Side 1 in reach, whose number is 1, and side 2 in stay, whose number is 2.
-fn hunter(sheet: &[u16]) -> u16 {
-    sheet::at(sheet, sheet::HEAD, sheet::OBJECTIVE)
+pub fn is_prey(sheet: &Sheet, state: u16) -> bool {
+    sheet::is_target(sheet, state) == (head(sheet, sheet::OBJECTIVE) == 1)
 }
 
 // The side that the verdict names.
-pub fn winner(sheet: &[u16]) -> u16 {
-    if sheet::word(sheet) == sheet::YES {
+pub fn winner(sheet: &Sheet) -> u16 {
+    if head(sheet, sheet::WORD) == sheet::YES {
         1
     } else {
         2
     }
 }
 
-pub fn winner_hunts(sheet: &[u16]) -> bool {
-    winner(sheet) == hunter(sheet)
+// Side 1, if the objective is number 1, reach, and side 2, if it is number 2, stay.
+pub fn winner_hunts(sheet: &Sheet) -> bool {
+    winner(sheet) == head(sheet, sheet::OBJECTIVE)
 }
 
 // Whether the winner has come to what it hunts for.
-pub fn is_met(sheet: &[u16], state: u16) -> bool {
+pub fn is_met(sheet: &Sheet, state: u16) -> bool {
     if winner_hunts(sheet) {
         is_prey(sheet, state)
     } else {
@@ -40,167 +41,100 @@ pub fn is_met(sheet: &[u16], state: u16) -> bool {
     }
 }
 
-// Finds all states that the play can reach from the named start for YES, and from all starts for NO, up to where the hunt ends.
-pub fn walk(sheet: &mut [u16]) {
-    forget(sheet);
-    begin(sheet);
-    let states = sheet::states(sheet);
-    let mut done = 0;
-    while done < states {
-        if done >= reached(sheet) {
-            return;
-        }
-        step(sheet, sheet::at(sheet, ORDER, done));
-        done += 1;
-    }
-}
-
-pub fn reached(sheet: &[u16]) -> u16 {
-    sheet::at(sheet, sheet::HEAD, sheet::REACHED)
-}
-
-fn forget(sheet: &mut [u16]) {
-    sheet::put(sheet, sheet::HEAD, sheet::REACHED, 0);
-    let states = sheet::states(sheet);
-    let mut state = 0;
-    while state < states {
-        sheet::put(sheet, SEEN, state, 0);
-        sheet::put(sheet, TIME, state, NONE);
-        state += 1;
-    }
-}
-
-fn begin(sheet: &mut [u16]) {
-    let states = sheet::states(sheet);
-    let mut state = 0;
-    while state < states {
-        let here = begins_at(sheet, state);
-        reach_if(here, sheet, state);
-        state += 1;
-    }
-}
-
-pub fn begins_at(sheet: &[u16], state: u16) -> bool {
-    if sheet::word(sheet) == sheet::YES {
-        return state == sheet::at(sheet, sheet::HEAD, sheet::NAMED);
-    }
-    sheet::is_start(sheet, state)
-}
-
-// Puts a state that the play comes to at the end of the order, unless it was seen before.
-fn reach_if(comes: bool, sheet: &mut [u16], state: u16) {
-    if !comes {
-        return;
-    }
-    if sheet::at(sheet, SEEN, state) == 1 {
-        return;
-    }
-    let count = reached(sheet);
-    if count < 512 {
-        sheet::put(sheet, SEEN, state, 1);
-        sheet::put(sheet, ORDER, count, state);
-        sheet::put(sheet, sheet::HEAD, sheet::REACHED, count + 1);
-    }
-}
-
-fn step(sheet: &mut [u16], state: u16) {
+// Whether the play goes on from a state, and the plan lets it go to another to which the state has a move.
+fn is_played(sheet: &Sheet, state: u16, other: u16) -> bool {
     if is_met(sheet, state) {
-        return;
+        return false;
     }
-    let end = sheet::end_of_moves(sheet, state);
-    let mut number = sheet::first_move(sheet, state);
-    while number < end {
-        let other = sheet::to(sheet, number);
-        let there = is_played(sheet, state, other);
-        reach_if(there, sheet, other);
-        number += 1;
-    }
-}
-
-// Whether the plan lets the play go from a state to another to which it has a move.
-fn is_played(sheet: &[u16], state: u16, other: u16) -> bool {
-    if sheet::turn(sheet, state) != winner(sheet) {
+    if at(sheet, TURN, state) != winner(sheet) {
         return true;
     }
-    sheet::at(sheet, SAID_MOVE, state) == other
+    at(sheet, SAID_MOVE, state) == other
 }
 
-// The most moves that the hunt can take from where it begins, or `NONE` where it need not end.
-pub fn longest_hunt(sheet: &mut [u16]) -> u16 {
-    settle_times(sheet);
-    let states = sheet::states(sheet);
-    let mut most = 0;
-    let mut state = 0;
-    while state < states {
-        most = later(most, time_to_count(sheet, state));
-        state += 1;
+// 1 where the hunt has ended, and otherwise one more than after the worst move; 0 as long as that is not known.
+pub fn renewed(sheet: &Sheet, state: u16) -> u16 {
+    if is_met(sheet, state) {
+        return 1;
     }
-    most
+    let worst = worst_time(sheet, state);
+    if worst == 0 {
+        return 0;
+    }
+    if worst < TOO_LONG { worst + 1 } else { 0 }
 }
 
-fn time_to_count(sheet: &[u16], state: u16) -> u16 {
-    if begins_at(sheet, state) {
-        sheet::at(sheet, TIME, state)
-    } else {
-        0
+// The longest time after a move that is played from the state, `TOO_LONG` where one is not known, and 0 where there is no such move.
+fn worst_time(sheet: &Sheet, state: u16) -> u16 {
+    let end = sheet::end_of_moves(sheet, state);
+    let mut worst = 0;
+    let mut number = at(sheet, FIRST, state);
+    while number < end {
+        worst = later(
+            worst,
+            time_after(sheet, state, at(sheet, sheet::TO, number)),
+        );
+        number += 1;
     }
+    worst
+}
+
+fn time_after(sheet: &Sheet, state: u16, other: u16) -> u16 {
+    let time = at(sheet, TIME, other);
+    if !is_played(sheet, state, other) {
+        return 0;
+    }
+    if time == 0 { TOO_LONG } else { time }
 }
 
 fn later(one: u16, other: u16) -> u16 {
     if one < other { other } else { one }
 }
 
-// Each pass that changes anything settles at least one state, so as many passes as there are states are enough.
-fn settle_times(sheet: &mut [u16]) {
-    let states = sheet::states(sheet);
-    let mut passes = 0;
-    while passes < states {
-        if !pass(sheet) {
-            return;
+// The most moves that a hunt can take from a state that is marked for the winner.
+pub fn longest(sheet: &Sheet) -> u16 {
+    let states = head(sheet, sheet::STATES);
+    let mut longest = 1;
+    let mut state = 0;
+    while state < states {
+        if at(sheet, sheet::SAID_MARK, state) == head(sheet, sheet::WORD) {
+            longest = later(longest, at(sheet, TIME, state));
         }
-        passes += 1;
+        state += 1;
     }
+    std::num::wrapping_sub_u16(longest, 1)
 }
 
-// Goes over the reached states, those reached last first, and answers whether a time changed.
-fn pass(sheet: &mut [u16]) -> bool {
-    let mut changed = false;
-    let mut left = reached(sheet);
-    while left > 0 {
-        left -= 1;
-        let state = sheet::at(sheet, ORDER, left);
-        let before = sheet::at(sheet, TIME, state);
-        let after = time_from(sheet, state);
-        sheet::put(sheet, TIME, state, after);
-        if before != after {
-            changed = true;
-        }
-    }
-    changed
-}
-
-// No move where the hunt has ended, and otherwise one more than after the worst move; `NONE` as long as that is not known.
-fn time_from(sheet: &[u16], state: u16) -> u16 {
-    if is_met(sheet, state) {
-        return 0;
-    }
-    let worst = worst_time(sheet, state);
-    if worst == NONE { NONE } else { worst + 1 }
-}
-
-// The most moves after a move from the state, or `NONE` where there is no move or one of them has no time yet.
-fn worst_time(sheet: &[u16], state: u16) -> u16 {
+// Whether `state` has a move to `other`.
+pub fn has_move(sheet: &Sheet, state: u16, other: u16) -> bool {
     let end = sheet::end_of_moves(sheet, state);
-    let mut worst = 0;
-    let mut played = false;
-    let mut number = sheet::first_move(sheet, state);
+    let mut number = at(sheet, FIRST, state);
     while number < end {
-        let other = sheet::to(sheet, number);
-        if is_played(sheet, state, other) {
-            played = true;
-            worst = later(worst, sheet::at(sheet, TIME, other));
+        if at(sheet, sheet::TO, number) == other {
+            return true;
         }
         number += 1;
     }
-    if played { worst } else { NONE }
+    false
+}
+
+// Whether the plan lets the play go from the state to one that is not marked for the winner.
+pub fn is_left(sheet: &Sheet, state: u16) -> bool {
+    let end = sheet::end_of_moves(sheet, state);
+    let mut number = at(sheet, FIRST, state);
+    while number < end {
+        if is_left_for(sheet, state, at(sheet, sheet::TO, number)) {
+            return true;
+        }
+        number += 1;
+    }
+    false
+}
+
+fn is_left_for(sheet: &Sheet, state: u16, other: u16) -> bool {
+    if is_played(sheet, state, other) {
+        at(sheet, sheet::SAID_MARK, other) != head(sheet, sheet::WORD)
+    } else {
+        false
+    }
 }

@@ -34,19 +34,17 @@ const FIRST_START: u16 = 28;
 
 const MOVES: u16 = 100;
 
-// A place of the row of blocks that holds none yet.
+// What stands for no state.
 const NONE: u16 = 65535;
 
 // Writes all records at the start of `file`, and answers how many bytes they take.
 pub fn write_file(shape: Shape, file: &mut [u8]) -> usize {
-    store(file, 0, 8);
-    store(file, 2, 1);
-    store(file, 4, shape.states);
-    store(file, 8, shape.objective);
     let mut lowest = no_blocks();
     state_records(shape, file, &mut lowest);
     let end = move_records(shape, file);
-    store(file, 6, moves_before(shape.states, end));
+    record(file, 0, 1, shape.states, moves_before(shape.states, end));
+    store(file, 0, 8);
+    store(file, 8, shape.objective);
     end
 }
 
@@ -162,44 +160,50 @@ fn move_records(shape: Shape, file: &mut [u8]) -> usize {
     at
 }
 
+// Writes the moves of a state, and answers where the next record starts.
 fn moves_from(shape: Shape, state: u16, file: &mut [u8], at: usize) -> usize {
-    if !is_chain(shape) {
-        return scattered_moves(shape, state, file, at);
-    }
-    if state == end_of_chain(shape, shape.downward == 0) {
-        return record(file, at, 3, state, state);
-    }
-    if shape.downward == 1 {
-        downward_moves(shape, state, file, at)
-    } else {
-        upward_moves(shape, state, file, at)
-    }
-}
-
-// The states are parted into as many stretches as there are moves, the last one taking what is left, and each move leads into
-// another stretch.
-fn scattered_moves(shape: Shape, state: u16, file: &mut [u8], at: usize) -> usize {
-    let count = move_count(shape, state);
-    let width = shape.states / count;
+    let most = shape.most_moves;
+    let width = shape.states / move_count(shape, state);
     let mut next = at;
     let mut low: u16 = 0;
-    let mut made: u16 = 0;
-    while made < count {
-        let stretch = if made + 1 == count {
-            wrapping_sub_u16(shape.states, low)
-        } else {
-            width
-        };
-        let purpose = wrapping_add_u16(MOVES, made);
-        let to = wrapping_add_u16(low, below(stretch, shape.game, purpose, state));
-        next = record(file, next, 3, state, to);
+    let mut number: u16 = 0;
+    while number < most {
+        next = move_record(file, next, state, move_to(shape, state, number, low));
         low = wrapping_add_u16(low, width);
-        made += 1;
+        number += 1;
     }
     next
 }
 
-// At least one move, and at most one to each state.
+// Where the move of this number leads, or `NONE`.
+fn move_to(shape: Shape, state: u16, number: u16, low: u16) -> u16 {
+    if is_chain(shape) {
+        chain_move(shape, state, number)
+    } else {
+        scattered_move(shape, state, number, low)
+    }
+}
+
+// The states are parted into as many stretches as there are moves, and each move leads into another stretch. This one begins at
+// `low`; the last one takes what is left.
+fn scattered_move(shape: Shape, state: u16, number: u16, low: u16) -> u16 {
+    let count = move_count(shape, state);
+    if number >= count {
+        return NONE;
+    }
+    let left = wrapping_sub_u16(shape.states, low);
+    let stretch = if number == count - 1 {
+        left
+    } else {
+        shape.states / count
+    };
+    wrapping_add_u16(
+        low,
+        below(stretch, shape.game, wrapping_add_u16(MOVES, number), state),
+    )
+}
+
+// At least one move, and at most one to each state. A full game has as many as can be.
 fn move_count(shape: Shape, state: u16) -> u16
     ensures { λ r. ⌜ 0 < r ⌝ }
 {
@@ -208,10 +212,12 @@ fn move_count(shape: Shape, state: u16) -> u16
     } else {
         shape.states
     };
+    let drawn = below(most, shape.game, MOVE_COUNT, state);
     if shape.family == FULL {
-        return at_least_one(most);
+        at_least_one(most)
+    } else {
+        at_least_one(wrapping_add_u16(drawn, 1))
     }
-    at_least_one(wrapping_add_u16(1, below(most, shape.game, MOVE_COUNT, state)))
 }
 
 fn at_least_one(count: u16) -> u16
@@ -220,49 +226,66 @@ fn at_least_one(count: u16) -> u16
     if count == 0 { 1 } else { count }
 }
 
-// At times back to any state that is no higher, one step up, and at times two steps.
-fn upward_moves(shape: Shape, state: u16, file: &mut [u8], at: usize) -> usize {
-    let up = wrapping_add_u16(state, 1);
-    let back = below(up, shape.game, STEP_BACK, state);
-    let far = wrapping_add_u16(state, 2);
-    let second = move_if(steps_back(shape, state), file, at, state, back);
-    let third = record(file, second, 3, state, up);
-    move_if(steps_far(shape, state, far), file, third, state, far)
+// One step along the chain, at times two steps, and at times back. Upwards the step back has the lowest number that it leads to, and
+// downwards the step of two. The near end leads to itself.
+fn chain_move(shape: Shape, state: u16, number: u16) -> u16 {
+    if state == end_of_chain(shape, shape.downward == 0) {
+        return if number == 1 { state } else { NONE };
+    }
+    let up = shape.downward == 0;
+    match number {
+        0 => if up {
+            back_step(shape, state)
+        } else {
+            far_step(shape, state)
+        },
+        1 => step(shape, state, 1),
+        2 => if up {
+            far_step(shape, state)
+        } else {
+            back_step(shape, state)
+        },
+        _ => NONE,
+    }
 }
 
-// At times two steps down, one step, and at times back to any state that is no lower.
-fn downward_moves(shape: Shape, state: u16, file: &mut [u8], at: usize) -> usize {
-    let down = wrapping_sub_u16(state, 1);
-    let far = wrapping_sub_u16(state, 2);
-    let above = wrapping_sub_u16(shape.states, state);
-    let back = wrapping_add_u16(state, below(above, shape.game, STEP_BACK, state));
-    let second = move_if(steps_far(shape, state, far), file, at, state, far);
-    let third = record(file, second, 3, state, down);
-    move_if(steps_back(shape, state), file, third, state, back)
-}
-
-// Writes the record of a move where it is wanted. Answers where the next record starts.
-fn move_if(wanted: bool, file: &mut [u8], at: usize, from: u16, to: u16) -> usize {
-    if wanted {
-        record(file, at, 3, from, to)
+fn step(shape: Shape, state: u16, length: u16) -> u16 {
+    if shape.downward == 1 {
+        wrapping_sub_u16(state, length)
     } else {
-        at
+        wrapping_add_u16(state, length)
     }
 }
 
-// Side 1 hunts in reach and side 2 in stay. Steps back of the side that is hunted are rare.
-fn steps_back(shape: Shape, state: u16) -> bool {
-    if turn_of(shape, state) == shape.objective {
-        return chance(500, shape.game, HAS_STEP_BACK, state);
-    }
-    chance(shape.weakness, shape.game, HAS_STEP_BACK, state)
-}
-
-fn steps_far(shape: Shape, state: u16, far: u16) -> bool {
+fn far_step(shape: Shape, state: u16) -> u16 {
+    let far = step(shape, state, 2);
     if far >= shape.states {
-        return false;
+        return NONE;
     }
-    chance(200, shape.game, LONG_STEP, state)
+    if chance(200, shape.game, LONG_STEP, state) {
+        far
+    } else {
+        NONE
+    }
+}
+
+// Back to any state that is not further along, the state itself among them. Side 1 hunts in reach and side 2 in stay; steps back of
+// the side that is hunted are rare.
+fn back_step(shape: Shape, state: u16) -> u16 {
+    let times = if turn_of(shape, state) == shape.objective {
+        500
+    } else {
+        shape.weakness
+    };
+    if !chance(times, shape.game, HAS_STEP_BACK, state) {
+        return NONE;
+    }
+    if shape.downward == 1 {
+        let above = wrapping_sub_u16(shape.states, state);
+        wrapping_add_u16(state, below(above, shape.game, STEP_BACK, state))
+    } else {
+        below(wrapping_add_u16(state, 1), shape.game, STEP_BACK, state)
+    }
 }
 
 // How many records of a move lie between the states and the end.
@@ -272,6 +295,15 @@ fn moves_before(states: u16, end: usize) -> u16 {
         return 0;
     }
     (((end - first) / 8) % 65536) as u16
+}
+
+// Writes the record of a move, if there is one. Answers where the next record starts.
+fn move_record(file: &mut [u8], at: usize, from: u16, to: u16) -> usize {
+    if to == NONE {
+        at
+    } else {
+        record(file, at, 3, from, to)
+    }
 }
 
 // Writes a record of length 6: its length, its kind and two numbers. Answers where the next record starts.

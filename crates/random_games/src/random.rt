@@ -1,11 +1,10 @@
 // Numbers that look random. Each is worked out from the game's number, a purpose and a place, so every run has the same ones.
+use std::num::wrapping_add_u16;
 use std::num::wrapping_add_u64;
-ghost use Prim.Native.Nat.{_≤_};
+use std::num::wrapping_sub_u16;
 
 // A number below `limit`, and 0 where there is none.
-pub fn below(limit: u16, game: u64, purpose: u16, place: u16) -> u16
-    ensures { λ r. ⌜ r ≤ limit ⌝ }
-{
+pub fn below(limit: u16, game: u64, purpose: u16, place: u16) -> u16 {
     if limit == 0 {
         return 0;
     }
@@ -15,23 +14,8 @@ pub fn below(limit: u16, game: u64, purpose: u16, place: u16) -> u16
 
 // A number from `low` to `high`.
 pub fn between(low: u16, high: u16, game: u64, purpose: u16) -> u16 {
-    if high < low {
-        return low;
-    }
-    let more = (high - low) as u32 + 1;
-    let drawn = below(capped(more), game, purpose, 0);
-    if drawn <= high - low {
-        low + drawn
-    } else {
-        low
-    }
-}
-
-fn capped(value: u32) -> u16 {
-    if value > 65535 {
-        return 65535;
-    }
-    value as u16
+    let count = wrapping_add_u16(wrapping_sub_u16(high, low), 1);
+    wrapping_add_u16(low, below(count, game, purpose, 0))
 }
 
 // True `times` times in a thousand.

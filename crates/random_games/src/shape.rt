@@ -141,7 +141,8 @@ fn most_moves_of(family: u16, states: u16, game: u64) -> u16 {
         SPARSE => 2,
         DENSE => 64,
         WIDE => between(1, 4096 / states, game, MOST_MOVES),
-        _ => 8,
+        FULL => 8,
+        _ => 3,
     }
 }
 
@@ -179,15 +180,18 @@ fn starts_of(game: u64) -> u16 {
     }
 }
 
+// Long chains are seldom in few blocks, since they take long then.
 fn colours_of(family: u16, game: u64) -> u16 {
     if family == FOLDED {
         return 1;
     }
-    match below(5, game, COLOURS, 0) {
-        0 => 0,
+    let most = if family == CHAINS { 20 } else { 5 };
+    match below(most, game, COLOURS, 0) {
+        0 => 1,
         1 => between(2, 4, game, COLOUR_COUNT),
         2 => between(5, 32, game, COLOUR_COUNT),
-        _ => 1,
+        3 => 1,
+        _ => 0,
     }
 }
 

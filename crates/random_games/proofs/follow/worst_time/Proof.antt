@@ -5,10 +5,10 @@ use Rattle.random_games.proofs.follow.worst_time.Statement.{statement}
 use Rattle.random_games.proofs.follow.worst_time.Tie as tie
 
 abbrev Inv-loop : tie.InvT-loop
-Inv-loop sheet state end worst₀ played₀ number₀ worst played number = Unit {0}
+Inv-loop sheet state end worst₀ number₀ worst number = Unit {0}
 
 abbrev μ-loop : tie.MeasureT-loop
-μ-loop sheet state end worst₀ played₀ number₀ worst played number = end - number
+μ-loop sheet state end worst₀ number₀ worst number = end - number
 
 pub worst-time-spec : {M : Type 1} → statement M
 worst-time-spec =
@@ -20,8 +20,6 @@ worst-time-spec =
     (λ c κs. search needs)
     (λ c κs. search needs)
     (λ c κs. search needs)
-    (λ c κs. search needs)
-    (λ c. search needs)
     (λ c. search needs)
     (λ c. search needs)
     (λ c. search needs)

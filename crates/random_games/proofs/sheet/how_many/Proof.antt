@@ -5,10 +5,10 @@ use Rattle.random_games.proofs.sheet.how_many.Statement.{statement}
 use Rattle.random_games.proofs.sheet.how_many.Tie as tie
 
 abbrev Inv-loop : tie.InvT-loop
-Inv-loop sheet kind count found₀ state₀ found state = Unit {0}
+Inv-loop sheet kind states found₀ state₀ found state = Unit {0}
 
 abbrev μ-loop : tie.MeasureT-loop
-μ-loop sheet kind count found₀ state₀ found state = count - state
+μ-loop sheet kind states found₀ state₀ found state = states - state
 
 pub how-many-spec : {M : Type 1} → statement M
 how-many-spec =

@@ -1,13 +1,11 @@
--- `random_games::sheet::load_moves` is safe and ends. The invariant: `sheet` keeps its length.
+-- `random_games::sheet::load_moves` is safe and ends. Nothing has to hold from turn to turn.
 use Prim.Native.Nat.{_-_}
-use mathlib.Core.Path.{_≡_}
-use lib.ListN.{length}
 use borrow.Author.Needs.{needs}
 use Rattle.random_games.proofs.sheet.load_moves.Statement.{statement}
 use Rattle.random_games.proofs.sheet.load_moves.Tie as tie
 
 abbrev Inv-loop : tie.InvT-loop
-Inv-loop sheet₀ game moves number₀ sheet number = length sheet ≡ length sheet₀
+Inv-loop sheet₀ game moves number₀ sheet number = Unit {0}
 
 abbrev μ-loop : tie.MeasureT-loop
 μ-loop sheet₀ game moves number₀ sheet number = moves - number
@@ -17,7 +15,6 @@ load-moves-spec =
     tie.close
     (tie.spec Inv-loop μ-loop
     (λ c κs. search needs)
-    (λ c κs. search needs)
     (λ c. search needs)
     (λ c. search needs)
     (λ c. search needs)
@@ -28,7 +25,6 @@ load-moves-spec =
     (λ c. search needs)
     (λ c. search needs)
     (λ c κs. search needs)
-    (λ c. search needs)
     (λ c. search needs)
     (λ c. search needs)
     (λ c. search needs)

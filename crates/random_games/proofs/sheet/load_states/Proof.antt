@@ -1,13 +1,11 @@
--- `random_games::sheet::load_states` is safe and ends. The invariant: `sheet` keeps its length.
+-- `random_games::sheet::load_states` is safe and ends. Nothing has to hold from turn to turn.
 use Prim.Native.Nat.{_-_}
-use mathlib.Core.Path.{_≡_}
-use lib.ListN.{length}
 use borrow.Author.Needs.{needs}
 use Rattle.random_games.proofs.sheet.load_states.Statement.{statement}
 use Rattle.random_games.proofs.sheet.load_states.Tie as tie
 
 abbrev Inv-loop : tie.InvT-loop
-Inv-loop sheet₀ game states state₀ sheet state = length sheet ≡ length sheet₀
+Inv-loop sheet₀ game states state₀ sheet state = Unit {0}
 
 abbrev μ-loop : tie.MeasureT-loop
 μ-loop sheet₀ game states state₀ sheet state = states - state
@@ -28,7 +26,6 @@ load-states-spec =
     (λ c. search needs)
     (λ c. search needs)
     (λ c κs. search needs)
-    (λ c. search needs)
     (λ c. search needs)
     (λ c. search needs)
     (λ c. search needs)
