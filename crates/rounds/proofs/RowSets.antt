@@ -1,30 +1,26 @@
 -- What the rows of a round say of the border and of the split, for the caller of the functions that make them.
-use mathlib.Core.Path.{_≡_, refl, ap, ap₂, _∙_}
-use mathlib.Core.Bool.{Bool, true, false, not, _&&_, cond, Bool·beq}
+use mathlib.Core.Path.{_≡_, ap, ap₂, _∙_}
+use mathlib.Core.Bool.{Bool, not, _&&_, cond, Bool·beq}
 use mathlib.Core.List.{List}
-use Prim.Native.Nat.{ℕ, suc, _<_}
-use native.Mathlib.Nat.{le-refl}
+use Prim.Native.Nat.{ℕ, _<_}
 use lib.Dec.{eqb}
 use Rattle.arena.specs.Sets.{Set, bit}
 use Rattle.arena.specs.Game.{forced}
-use Rattle.arena.specs.Passes.{rank}
 use Rattle.arena.proofs.Loops.{some-cong}
 use Rattle.arena.proofs.Passes.{mono-ext}
 use Rattle.arena.proofs.Forced.{forced-mono}
 use Rattle.game.specs.Rows.{fill}
 use Rattle.game.specs.Game.{blockNo, blockAt}
 use Rattle.game.specs.Arena.{sideOf, arenaOf}
+use Rattle.game.specs.declared.BlockNo.{BlockNo}
 use Rattle.game.specs.declared.Game.{Game}
 use Rattle.game.proofs.Rows.{fill-at, fill-cong}
 use Rattle.blocks.specs.Blocks.{meets, isBlock, split}
-use Rattle.blocks.specs.Hunt.{insideStep, meetsStep, lower, upper}
-use Rattle.rounds.specs.Stamp.{passAt, isIn, stampFrom, joining}
-use Rattle.rounds.specs.Border.{bordering, borderAnswer}
-use Rattle.rounds.specs.Split.{ones, withSplit}
+use Rattle.rounds.specs.Stamp.{isIn}
+use Rattle.rounds.specs.Border.{bordering}
+use Rattle.rounds.specs.Split.{ones, numberAt, splitRow}
 use Rattle.arena.proofs.Least.{least-cong}
-use Rattle.rounds.proofs.Stamp.{stamp-rank, passes-from, passes-set}
-use Rattle.rounds.proofs.Split.{with-split}
-use Rattle.rounds.proofs.Joining.{joining-mono, bit-is-one}
+use Rattle.rounds.proofs.Joining.{bit-is-one}
 
 module _ (g : Game) (side : ℕ) where
   -- a block is a border block of the rows if it is one of the sets that they say
@@ -42,11 +38,11 @@ pub ones-row : (n : ℕ) (F : Set) (row d : List ℕ) → row ≡ fill n (λ s. 
 ones-row n F row d e s l = rw e (ap (λ (v : ℕ). eqb v 1) (fill-at n _ d s l) ∙ bit-is-one (F s))
 
 -- a block is split alike by sets that agree on the states
-pub split-cong : (g : Game) (b : ℕ) (C D : Set) → ((s : ℕ) → s < g .states → C s ≡ D s) → withSplit g b C ≡ withSplit g b D
-unfolding withSplit split
-split-cong g b C D h = with-split g b D _ (fill-cong (g .states) _ _ (g .block) (λ s l. ap blockNo (part s l)))
+pub split-cong : (n : ℕ) (row : List BlockNo) (b : ℕ) (C D : Set) → ((s : ℕ) → s < n → C s ≡ D s) → splitRow n row b C ≡ splitRow n row b D
+unfolding splitRow split
+split-cong n row b C D h = fill-cong n _ _ row (λ s l. ap blockNo (part s l))
   where
-    part : (s : ℕ) → s < g .states → split (g .states) (blockAt g) b C s ≡ split (g .states) (blockAt g) b D s
+    part : (s : ℕ) → s < n → split n (numberAt row) b C s ≡ split n (numberAt row) b D s
     part s l =
-        ap (λ (m : ℕ). cond (eqb (blockAt g s) b) m (blockAt g s))
-        (least-cong (g .states) _ _ (λ t m. ap₂ (λ (x y : Bool). eqb (blockAt g t) b && Bool·beq x y) (h t m) (h s l)))
+        ap (λ (m : ℕ). cond (eqb (numberAt row s) b) m (numberAt row s))
+        (least-cong n _ _ (λ t m. ap₂ (λ (x y : Bool). eqb (numberAt row t) b && Bool·beq x y) (h t m) (h s l)))

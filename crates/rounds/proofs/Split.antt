@@ -2,15 +2,11 @@
 use mathlib.Core.Path.{_≡_, refl, ap}
 use mathlib.Core.Bool.{Bool, true, false, _&&_, cond, Bool·beq}
 use Prim.Native.Nat.{ℕ}
-use mathlib.Core.List.{List}
 use lib.Dec.{eqb}
 use Rattle.arena.specs.Sets.{Set, least}
-use Rattle.game.specs.Rows.{fill}
-use Rattle.game.specs.Game.{blockNo, blockAt}
+use Rattle.game.specs.Game.{blockNo}
 use Rattle.game.specs.declared.BlockNo.{BlockNo}
-use Rattle.game.specs.declared.Game.{Game}
 use Rattle.blocks.specs.Blocks.{split}
-use Rattle.rounds.specs.Split.{withSplit}
 
 -- the block that s goes to, which a call gave by the lowest members of both parts
 pub split-is : (n : ℕ) (block : ℕ → ℕ) (b : ℕ) (C : Set) (s inner outer : ℕ) (r : BlockNo)
@@ -27,18 +23,3 @@ split-is n block b C s inner outer r e p q = rw (e, p, q) (ap blockNo (go (C s))
     go : (x : Bool) → cond (eqb (block s) b) (cond x (lowest true) (lowest false)) (block s) ≡ cond (eqb (block s) b) (lowest x) (block s)
     go true = refl
     go false = refl
-
--- the game with the new row of blocks and all else as it was
-pub with-split : (g : Game) (b : ℕ) (C : Set) (row : List BlockNo) → row ≡ fill (g .states) (λ s. blockNo (split (g .states) (blockAt g) b C s)) (g .block)
-    → record {
-      states = g .states;
-      moves = g .moves;
-      objective = g .objective;
-      turn = g .turn;
-      marks = g .marks;
-      block = row;
-      from = g .from;
-      to = g .to;
-    } ≡ withSplit g b C
-unfolding withSplit
-with-split g b C row e = rw e refl

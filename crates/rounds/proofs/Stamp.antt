@@ -1,24 +1,23 @@
 -- Laws of rows of passes.
 use mathlib.Core.Path.{_≡_, refl, sym, ap, _∙_, fun-ext}
-use mathlib.Core.Bool.{Bool, true, false, not, _||_, cond}
+use mathlib.Core.Bool.{Bool, true, false, not, _&&_, _||_, cond}
 use mathlib.Core.Logic.{⊎-elim}
 use mathlib.Core.List.{List}
 use Prim.Native.Nat.{ℕ, zero, suc, _+_, _≤_, _<_}
 use native.Mathlib.Omega.{arith}
 use native.Mathlib.Decide.{le-ind}
 use native.Mathlib.Numerals.{add-one}
-use lib.ListN.{length, getD}
+use lib.ListN.{length}
 use lib.Dec.{eqb, eqb·suc-zero}
-use borrow.Author.Tests.{eq-eqb}
 use Rattle.arena.specs.Sets.{Set, bit, some}
 use Rattle.arena.specs.Passes.{grow, rank}
-use Rattle.arena.proofs.Tests.{holds, fails, or-r}
+use Rattle.arena.proofs.Tests.{is-false, fails, or-r}
 use Rattle.arena.proofs.Sets.{some-intro}
 use Rattle.arena.proofs.Loops.{le-or-lt}
 use Rattle.arena.proofs.Passes.{Mono, mono-ext, rank-le}
 use Rattle.game.specs.Rows.{fill}
 use Rattle.game.proofs.Rows.{fill-at, fill-again, fill-cong}
-use Rattle.rounds.specs.Stamp.{passAt, entered, isIn, passNo, onePass, stampFrom, stamp}
+use Rattle.rounds.specs.Stamp.{passAt, entered, isIn, passNo, stampFrom, stamp}
 use Rattle.rounds.proofs.Rows.{fill-own}
 
 -- a state has a pass after this one if it had one before, or joins
@@ -93,11 +92,10 @@ stamp-stop n step mono f k still m km =
     rw (ih s l, mono-ext n step mono (entered (stampFrom step f m)) (entered (stampFrom step f k)) (λ t b. ap (λ (v : ℕ). not (eqb v 0)) (ih t b)) s l)
     (no-joins (stampFrom step f k s) (step (entered (stampFrom step f k)) s) (suc k) (suc (suc m)) (still s l))) m km
 
--- a state that does not get this pass's number keeps its own
-not-now : (own : ℕ) (j : Bool) (m : ℕ) → (passNo own j m ≡ m → ⊥) → passNo own j m ≡ own
+-- a state that is inside or does not join keeps its pass
+pub not-now : (own : ℕ) (j : Bool) (m : ℕ) → (eqb own 0 && j) ≡ false → passNo own j m ≡ own
 unfolding passNo
-not-now zero true m h = absurd (h refl)
-not-now zero false m h = refl
+not-now zero j m h = rw h refl
 not-now (suc own) j m h = rw (eqb·suc-zero own) refl
 
 -- ## The loop of passes
@@ -108,36 +106,39 @@ module _ (n : ℕ) (step : Set → Set) (mono : Mono n step) (start : List ℕ) 
   unfolding stampFrom
   passes-none h = fill-own n start h
 
-  -- one pass more
-  pub passes-more : (k : ℕ) (row next : List ℕ) → row ≡ fill n (stampFrom step (passAt start) k) start → next ≡ fill n (onePass step (passAt row) (k + 2)) row → next ≡ fill n (stampFrom step (passAt start) (k + 1)) start
-  unfolding stampFrom
-  passes-more k row next e q =
-      q ∙ ap (λ (l : List ℕ). fill n (onePass step (passAt row) (k + 2)) l) e ∙ fill-again n _ _ start
-      ∙ fill-cong n _ _ start (λ s l. rw (add-one) (same s l))
-    where
-      here : (s : ℕ) → s < n → passAt row s ≡ stampFrom step (passAt start) k s
-      here s l = rw e (fill-at n _ start s l)
+  -- one pass more, from a row that k passes made: J are the states whose block joins
+  module _ (k : ℕ) (row next : List ℕ) (J : Set) (made : row ≡ fill n (stampFrom step (passAt start) k) start) (joins : (s : ℕ) → s < n → J s ≡ step (isIn row) s)
+      (passed : next ≡ fill n (λ s. passNo (passAt row s) (J s) (k + 2)) row) where
+    -- the pass that each state has, and whether its block joins
+    pass-is : (s : ℕ) → s < n → passAt row s ≡ stampFrom step (passAt start) k s
+    pass-is s l = rw made (fill-at n _ start s l)
 
-      two : k + 2 ≡ suc (suc k)
-      two = omega arith
+    join-is : (s : ℕ) → s < n → J s ≡ step (entered (stampFrom step (passAt start) k)) s
+    join-is s l = joins s l ∙ mono-ext n step mono (isIn row) (entered (stampFrom step (passAt start) k)) (λ t m. ap (λ (v : ℕ). not (eqb v 0)) (pass-is t m)) s l
 
-      same : (s : ℕ) → s < n → onePass step (passAt row) (k + 2) s ≡ onePass step (stampFrom step (passAt start) k) (suc (suc k)) s
-      same s l =
-          rw (two, here s l, mono-ext n step mono (isIn row) (entered (stampFrom step (passAt start) k)) (λ t m. ap (λ (v : ℕ). not (eqb v 0)) (here t m)) s l) refl
+    -- the row of k + 1 passes
+    pub passes-more : next ≡ fill n (stampFrom step (passAt start) (k + 1)) start
+    unfolding stampFrom
+    passes-more =
+        passed ∙ ap (λ (l : List ℕ). fill n (λ s. passNo (passAt row s) (J s) (k + 2)) l) made ∙ fill-again n _ _ start
+        ∙ fill-cong n _ _ start (λ s l. rw (add-one, two, pass-is s l, join-is s l) refl)
+      where
+        two : k + 2 ≡ suc (suc k)
+        two = omega arith
 
-  -- a pass whose number no state has is as good as the last
-  pub passes-stop : (k : ℕ) (next : List ℕ) → k < n → next ≡ fill n (stampFrom step (passAt start) (k + 1)) start → some n (λ s. eqb (getD next s 0) (k + 2)) ≡ false → next ≡ fill n (stampFrom step (passAt start) n) start
-  unfolding stampFrom
-  passes-stop k next l e none =
-      e ∙ fill-cong n _ _ start (λ s b. rw add-one (still s b ∙ sym (stamp-stop n step mono (passAt start) k still n (omega arith) s b)))
-    where
-      two : k + 2 ≡ suc (suc k)
-      two = omega arith
+    -- where no state outside joined, the row of all passes
+    pub passes-stop : k < n → some n (λ s. eqb (passAt row s) 0 && J s) ≡ false → next ≡ fill n (stampFrom step (passAt start) n) start
+    unfolding stampFrom
+    passes-stop l none =
+        passes-more ∙ fill-cong n _ _ start (λ s b. rw add-one (still s b ∙ sym (stamp-stop n step mono (passAt start) k still n (omega arith) s b)))
+      where
+        outside : Set
+        outside s = eqb (passAt row s) 0 && J s
 
-      still : (s : ℕ) → s < n → stampFrom step (passAt start) (suc k) s ≡ stampFrom step (passAt start) k s
-      still s b = not-now (stampFrom step (passAt start) k s) (step (entered (stampFrom step (passAt start) k)) s) (suc (suc k))
-          (λ q. fails (some n (λ s. eqb (getD next s 0) (k + 2))) none (some-intro n (λ s. eqb (getD next s 0) (k + 2)) s b
-          (rw (e, fill-at n _ start s b, add-one, two) (holds _ (eq-eqb _ _ q)))))
+        still : (s : ℕ) → s < n → stampFrom step (passAt start) (suc k) s ≡ stampFrom step (passAt start) k s
+        still s b = not-now (stampFrom step (passAt start) k s) (step (entered (stampFrom step (passAt start) k)) s) (suc (suc k))
+            (rw (← pass-is s b, ← join-is s b)
+            (is-false (outside s) (λ x. fails (some n outside) none (some-intro n outside s b x))))
 
 -- where a row says the set A, its passes are those of A
 pub passes-from : (n : ℕ) (step : Set → Set) → Mono n step → (A : Set) (start d : List ℕ) → start ≡ fill n (λ s. bit (A s)) d → (k : ℕ) → fill n (stampFrom step (passAt start) k) start ≡ fill n (stamp step A k) d

@@ -1,20 +1,25 @@
 -- The forced-step set, as a walk over the moves finds it.
-use mathlib.Core.Path.{_≡_, refl, subst}
+use mathlib.Core.Path.{_≡_, refl, sym, ap, subst, _∙_}
 use mathlib.Core.Bool.{Bool, true, false, not, _&&_, _||_, cond}
-use mathlib.Core.Logic.{_⊎_, inl, inr, ⊎-elim}
+use mathlib.Core.List.{List}
 use Prim.Native.Nat.{ℕ, _+_, _≤_, _<_}
 use native.Mathlib.Omega.{arith}
-use lib.Dec.{T, leb, leb→le, eqb, eqb→eq, eqb-refl}
+use lib.ListN.{length, getD, set}
+use lib.Dec.{T, eqb, eqb→eq, eqb-refl}
 use borrow.Author.Tests.{eq-eqb, ne-eqb}
 use Rattle.arena.specs.Sets.{Set, imp, some, every, bit}
-use Rattle.arena.specs.Game.{same, forced}
-use Rattle.arena.proofs.Tests.{T-ext, and-l, and-r}
+use Rattle.arena.specs.Game.{forced}
+use Rattle.arena.proofs.Tests.{T-ext}
 use Rattle.arena.proofs.Sets.{meets-in, meets-out, within-in, within-out}
-use Rattle.arena.proofs.Loops.{le-or-lt, some-zero, every-zero, some-more, every-more}
+use Rattle.arena.proofs.Loops.{some-zero, every-zero, some-more, every-more}
+use Rattle.game.specs.Limits.{maxStates}
+use Rattle.game.specs.Rows.{fill, zeros}
 use Rattle.game.specs.Game.{knownTurn, turnAt, fromAt, toAt, hasMove}
 use Rattle.game.specs.Arena.{sideOf, arenaOf}
 use Rattle.game.specs.Accepted.{Accepted}
 use Rattle.game.proofs.Turns.{same-turn}
+use Rattle.game.proofs.Rows.{fill-at, fill-cong, zeros-length}
+use Rattle.rounds.proofs.Rows.{fill-set}
 use Rattle.game.specs.declared.Game.{Game}
 
 module _ (g : Game) where
@@ -96,3 +101,33 @@ module _ (g : Game) where
     unfolding seen forced arenaOf
     seen-all side h X s l =
         rw (some-moves X s, every-move X s, same-turn side (turnAt g s) h (a .turn-known s l)) refl
+
+-- ## The row that the walk fills
+
+module _ (g : Game) (side : ℕ) (X : Set) where
+  -- what the first k moves tell of each state
+  abbrev pub seenRow : ℕ → List ℕ
+  seenRow k = fill (g .states) (λ s. bit (seen g side X k s)) (zeros maxStates)
+
+  -- the walk begins
+  pub walk-none : (row : List ℕ) → row ≡ fill (g .states) (λ s. bit (not (eqb (turnAt g s) side))) (zeros maxStates) → row ≡ seenRow 0
+  walk-none row e = e ∙ fill-cong _ _ _ _ (λ s _. ap bit (seen-none g side X s))
+
+  module _ (a : Accepted g) where
+    -- one move more; v is what the code finds for the state that it leaves
+    pub walk-more : (k : ℕ) → k < g .moves → (row : List ℕ) → row ≡ seenRow k → (v : ℕ)
+        → v ≡ cond (eqb (turnAt g (fromAt g k)) side) (cond (X (toAt g k)) 1 (getD row (fromAt g k) 0)) (cond (X (toAt g k)) (getD row (fromAt g k) 0) 0)
+        → set row (fromAt g k) v ≡ seenRow (k + 1)
+    walk-more k l row e v q =
+        let few : g .states ≤ length (zeros maxStates) = omega (arith, zeros-length maxStates, a .few-states) in
+        let place : fromAt g k < g .states = a .from-state k l in
+        fill-set _ _ _ _ few _ place row e v
+        (q ∙ seen-more g side X k _ refl _ (ap (λ (r : List ℕ). getD r (fromAt g k) 0) e ∙ fill-at _ _ _ _ place))
+        (λ s ne. ap bit (seen-same g side X k s (λ p. ne (sym p))))
+
+    -- the walk is over: the row of the forced-step set
+    pub walk-all : T (knownTurn side) → (k : ℕ) (row : List ℕ) → row ≡ seenRow k → k ≤ g .moves → g .moves ≤ k
+        → row ≡ fill (g .states) (λ s. bit (forced (arenaOf g) (sideOf side) X s)) (zeros maxStates)
+    walk-all h k row e p q =
+        let z : k ≡ g .moves = omega arith in
+        rw z at e ∙ fill-cong _ _ _ _ (λ s l. ap bit (seen-all g a side h X s l))

@@ -1,3 +1,4 @@
 pub mod Stamp
+pub mod Joining
 pub mod Border
 pub mod Split

@@ -5,24 +5,18 @@ use lib.ListN.{getD}
 use lib.Dec.{eqb}
 use Rattle.arena.specs.Sets.{Set}
 use Rattle.game.specs.Rows.{fill}
-use Rattle.game.specs.Game.{blockNo, blockAt}
-use Rattle.game.specs.declared.Game.{Game}
+use Rattle.game.specs.Game.{blockNo}
+use Rattle.game.specs.declared.BlockNo.{BlockNo}
 use Rattle.blocks.specs.Blocks.{split}
 
 -- the set of the states at which a row holds 1
 abbrev pub ones : List ℕ → Set
 ones row s = eqb (getD row s 0) 1
 
--- 01, 'One round': the game with block b split into the members inside C and the others
-unfoldable pub withSplit : Game → ℕ → Set → Game
-withSplit g b C =
-    record {
-      states = g .states;
-      moves = g .moves;
-      objective = g .objective;
-      turn = g .turn;
-      marks = g .marks;
-      block = fill (g .states) (λ s. blockNo (split (g .states) (blockAt g) b C s)) (g .block);
-      from = g .from;
-      to = g .to;
-    }
+-- the number of the block that stands at each place of a row of blocks
+abbrev pub numberAt : List BlockNo → ℕ → ℕ
+numberAt row s = getD row s (blockNo 0) .0
+
+-- 01, 'One round': the row of blocks with block b split into the members inside C and the others
+unfoldable pub splitRow : ℕ → List BlockNo → ℕ → Set → List BlockNo
+splitRow n row b C = fill n (λ s. blockNo (split n (numberAt row) b C s)) row

@@ -7,25 +7,29 @@ use game::has_mark;
 ghost use mathlib.Core.Path.{_≡_};
 ghost use mathlib.Core.Bool.{not, _&&_, cond, Bool·beq};
 ghost use Prim.Native.Nat.{_≤_};
-ghost use lib.ListN.{getD};
+ghost use lib.ListN.{length, getD};
 ghost use lib.Dec.{T, eqb};
 ghost use Rattle.arena.specs.Sets.{some, bit, least};
 ghost use Rattle.arena.specs.Game.{forced};
 ghost use Rattle.game.specs.Limits.{maxStates};
 ghost use Rattle.game.specs.Rows.{fill, zeros};
-ghost use Rattle.game.specs.Game.{knownTurn, marked, blockAt, targets, blockNo};
+ghost use Rattle.game.specs.Game.{knownTurn, marked, blockNo};
 ghost use Rattle.game.specs.Arena.{sideOf, goalOf, arenaOf};
 ghost use Rattle.game.specs.Accepted.{Accepted};
 ghost use Rattle.blocks.specs.Hunt.{hunter, prey};
-ghost use Rattle.rounds.specs.Stamp.{passAt, isIn, passNo, onePass, stampFrom, joining};
+ghost use Rattle.rounds.specs.Stamp.{passAt, isIn, passNo, stampFrom, joining};
+ghost use Rattle.rounds.specs.Joining.{Below, hitRow, joinsBy, blockJoins};
 ghost use Rattle.rounds.specs.Border.{bordering, borderAnswer};
-ghost use Rattle.rounds.specs.Split.{ones, withSplit};
+ghost use Rattle.rounds.specs.Split.{ones, numberAt, splitRow};
 
 // A set of states: 1 for a member, 0 for any other.
 pub type StateSet = [u8; Game::MAX_STATES];
 
 // A row of passes.
 pub type PassRow = [u16; Game::MAX_STATES];
+
+// The block of each state.
+pub type BlockRow = [BlockNo; Game::MAX_STATES];
 
 // What the search for a border block found.
 pub enum Border {
@@ -103,25 +107,36 @@ fn raised(found: bool, before: u8) -> u8
     before
 }
 
-// By block number: 1 for a block with a member at which the set holds what is wanted.
-fn hit_blocks(g: Game, set: StateSet, want: u8) -> StateSet
-    requires { ⌜ Accepted g ⌝ }
-    ensures { λ r. ⌜ r ≡ fill (g .states) (λ b. bit (some (g .states) (λ t. eqb (blockAt g t) b && eqb (getD set t 0) want))) (zeros maxStates) ⌝ }
+// The number of each state's block.
+pub fn block_row(n: usize, block: BlockRow) -> [u16; Game::MAX_STATES]
+    requires { ⌜ n ≤ maxStates ⌝ }
+    ensures { λ r. ⌜ r ≡ fill n (numberAt block) (zeros maxStates) ⌝ }
 {
-    let n = g.states;
-    let mut hit = [0u8; Game::MAX_STATES];
+    let mut numbers = [0u16; Game::MAX_STATES];
     let mut s: usize = 0;
     while s < n {
-        let b = g.block[s].0 as usize;
+        numbers[s] = block[s].0;
+        s += 1;
+    }
+    numbers
+}
+
+// Puts 1 into a row of zeros, by block number, for each block with a member at which the set holds what is wanted.
+fn hit_blocks(n: usize, block: &[u16], set: &[u8], want: u8, hit: &mut [u8])
+    requires { ⌜ (n ≤ maxStates) × (n ≤ length (now block)) × (n ≤ length (now set)) × Below n (now block) × (now hit ≡ zeros maxStates) ⌝ }
+    ensures { λ _. ⌜ now (hit .exit) ≡ hitRow n (now (block .entry)) (now (set .entry)) want ⌝ }
+{
+    let mut s: usize = 0;
+    while s < n {
+        let b = block[s] as usize;
         hit[b] = raised(set[s] == want, hit[b]);
         s += 1;
     }
-    hit
 }
 
 // The block joins: no member outside was found, or one inside was.
 fn joins(whole: bool, hit: u8) -> bool
-    ensures { λ r. ⌜ r ≡ cond whole (eqb hit 0) (eqb hit 1) ⌝ }
+    ensures { λ r. ⌜ r ≡ joinsBy whole hit ⌝ }
 {
     if whole {
         return hit == 0;
@@ -129,51 +144,32 @@ fn joins(whole: bool, hit: u8) -> bool
     hit == 1
 }
 
-// The pass of a state after this one.
-fn pass_no(own: u16, qualifies: bool, number: u16) -> u16
-    ensures { λ r. ⌜ r ≡ passNo own qualifies number ⌝ }
+// Every state outside whose block joins gets this pass's number. Whether there was one.
+fn join_blocks(
+    n: usize,
+    block: &[u16],
+    hit: &[u8],
+    whole: bool,
+    number: u16,
+    row: &mut [u16],
+) -> bool
+    requires { ⌜ (n ≤ maxStates) × (n ≤ length (now block)) × (n ≤ length (now hit)) × (n ≤ length (now row)) × Below n (now block) ⌝ }
+    ensures { λ r. ⌜ r ≡ some n (λ s. eqb (passAt (now (row .entry)) s) 0 && blockJoins whole (now (block .entry)) (now (hit .entry)) s) ⌝ }
+    ensures { λ _. ⌜ now (row .exit) ≡ fill n (λ s. passNo (passAt (now (row .entry)) s) (blockJoins whole (now (block .entry)) (now (hit .entry)) s) number) (now (row .entry)) ⌝ }
 {
-    if own != 0 {
-        return own;
-    }
-    if qualifies {
-        return number;
-    }
-    0
-}
-
-// One pass: every block that qualifies by what is there joins, and its states get the pass's number.
-fn one_pass(g: Game, side: u8, whole: bool, row: PassRow, number: u16) -> PassRow
-    requires { ⌜ Accepted g ⌝ }
-    requires { ⌜ T (knownTurn side) ⌝ }
-    ensures { λ r. ⌜ r ≡ fill (g .states) (onePass (joining g side whole) (passAt row) number) row ⌝ }
-{
-    let n = g.states;
-    let step = forced_step(g, side, row);
-    let hit = hit_blocks(g, step, zero_if(whole));
-    let mut out = row;
+    let mut joined = false;
     let mut s: usize = 0;
     while s < n {
-        let b = g.block[s].0 as usize;
-        out[s] = pass_no(row[s], joins(whole, hit[b]), number);
-        s += 1;
-    }
-    out
-}
-
-// Some state has this pass.
-fn some_entered(n: usize, row: PassRow, number: u16) -> bool
-    requires { ⌜ n ≤ maxStates ⌝ }
-    ensures { λ r. ⌜ r ≡ some n (λ s. eqb (getD row s 0) number) ⌝ }
-{
-    let mut s: usize = 0;
-    while s < n {
-        if row[s] == number {
-            return true;
+        let b = block[s] as usize;
+        if row[s] == 0 {
+            if joins(whole, hit[b]) {
+                row[s] = number;
+                joined = true;
+            }
         }
         s += 1;
     }
-    false
+    joined
 }
 
 // The passes from the row's set on, until one adds nothing: sure where whole blocks must be inside, possible where it
@@ -184,25 +180,39 @@ pub fn passes(g: Game, side: u8, whole: bool, start: PassRow) -> PassRow
     ensures { λ r. ⌜ r ≡ fill (g .states) (stampFrom (joining g side whole) (passAt start) (g .states)) start ⌝ }
 {
     let n = g.states;
+    let m = g.moves;
+    let turn = g.turn;
+    let named = g.block;
+    let block = block_row(n, named);
+    let opening = opening_row(n, turn, side);
+    let want = zero_if(whole);
     let mut row = start;
-    let mut k: usize = 0;
-    while k < n {
-        let number = (k + 2) as u16;
-        let next = one_pass(g, side, whole, row, number);
-        if !some_entered(n, next, number) {
-            return next;
+    let mut pass: usize = 0;
+    while pass < n {
+        let mut step = opening;
+        let mut k: usize = 0;
+        while k < m {
+            let f = g.from[k].0 as usize;
+            let t = g.to[k].0 as usize;
+            step[f] = after_move(turn[f] == side, row[t] != 0, step[f]);
+            k += 1;
         }
-        row = next;
-        k += 1;
+        let mut hit = [0u8; Game::MAX_STATES];
+        hit_blocks(n, &block, &step, want, &mut hit);
+        let number = (pass + 2) as u16;
+        if !join_blocks(n, &block, &hit, whole, number, &mut row) {
+            return row;
+        }
+        pass += 1;
     }
     row
 }
 
 // The side that wants to bring the play somewhere: side 1 to the target, or side 2 out of it.
-pub fn hunting_side(g: Game) -> u8
-    ensures { λ r. ⌜ (sideOf r ≡ hunter (goalOf (g .objective))) × T (knownTurn r) ⌝ }
+pub fn hunting_side(objective: u16) -> u8
+    ensures { λ r. ⌜ (sideOf r ≡ hunter (goalOf objective)) × T (knownTurn r) ⌝ }
 {
-    if g.objective == 1 {
+    if objective == 1 {
         return 1;
     }
     2
@@ -220,16 +230,14 @@ fn prey_no(objective: u16, marks: u8) -> u16
 }
 
 // Pass 1: the target of a reach game, and what lies outside the target of a stay game.
-pub fn prey_row(g: Game) -> PassRow
-    requires { ⌜ Accepted g ⌝ }
-    ensures { λ r. ⌜ r ≡ fill (g .states) (λ s. bit (prey (goalOf (g .objective)) (targets g) s)) (zeros maxStates) ⌝ }
+pub fn prey_row(n: usize, objective: u16, marks: [u8; Game::MAX_STATES]) -> PassRow
+    requires { ⌜ n ≤ maxStates ⌝ }
+    ensures { λ r. ⌜ r ≡ fill n (λ s. bit (prey (goalOf objective) (λ t. marked 2 (getD marks t 0)) s)) (zeros maxStates) ⌝ }
 {
-    let n = g.states;
-    let objective = g.objective;
     let mut row = [0u16; Game::MAX_STATES];
     let mut s: usize = 0;
     while s < n {
-        row[s] = prey_no(objective, g.marks[s]);
+        row[s] = prey_no(objective, marks[s]);
         s += 1;
     }
     row
@@ -288,14 +296,13 @@ pub fn border_block(g: Game, lower: PassRow, upper: PassRow, side: u8) -> Border
 }
 
 // The lowest member of block b that is inside, or that is not; the number of states where there is none.
-fn lowest_member(g: Game, b: BlockNo, inside: StateSet, want: bool) -> u16
-    requires { ⌜ Accepted g ⌝ }
-    ensures { λ r. ⌜ r ≡ least (g .states) (λ t. eqb (blockAt g t) (b .0) && Bool·beq (ones inside t) want) ⌝ }
+fn lowest_member(n: usize, block: BlockRow, b: BlockNo, inside: StateSet, want: bool) -> u16
+    requires { ⌜ n ≤ maxStates ⌝ }
+    ensures { λ r. ⌜ r ≡ least n (λ t. eqb (numberAt block t) (b .0) && Bool·beq (ones inside t) want) ⌝ }
 {
-    let n = g.states;
     let mut s: usize = 0;
     while s < n {
-        if g.block[s].0 == b.0 {
+        if block[s].0 == b.0 {
             if (inside[s] == 1) == want {
                 return s as u16;
             }
@@ -318,22 +325,19 @@ fn part(own: BlockNo, b: BlockNo, inside: bool, inner: u16, outer: u16) -> Block
     BlockNo(outer)
 }
 
-// The game with block b split into the members inside and the others.
-pub fn split_block(g: Game, b: BlockNo, inside: StateSet) -> Game
-    requires { ⌜ Accepted g ⌝ }
-    ensures { λ r. ⌜ r ≡ withSplit g (b .0) (ones inside) ⌝ }
+// The row of blocks with block b split into the members inside and the others.
+pub fn split_block(n: usize, block: BlockRow, b: BlockNo, inside: StateSet) -> BlockRow
+    requires { ⌜ n ≤ maxStates ⌝ }
+    ensures { λ r. ⌜ r ≡ splitRow n block (b .0) (ones inside) ⌝ }
 {
-    let n = g.states;
-    let inner = lowest_member(g, b, inside, true);
-    let outer = lowest_member(g, b, inside, false);
-    let mut block = g.block;
+    let inner = lowest_member(n, block, b, inside, true);
+    let outer = lowest_member(n, block, b, inside, false);
+    let mut finer = block;
     let mut s: usize = 0;
     while s < n {
-        let own = g.block[s];
-        block[s] = part(own, b, inside[s] == 1, inner, outer);
+        let own = block[s];
+        finer[s] = part(own, b, inside[s] == 1, inner, outer);
         s += 1;
     }
-    let mut finer = g;
-    finer.block = block;
     finer
 }

@@ -1,5 +1,5 @@
 -- The lowest good move of a state, as a walk over the moves meets it.
-use mathlib.Core.Path.{_≡_, refl, sym, ap, _∙_}
+use mathlib.Core.Path.{_≡_, refl, sym, _∙_}
 use mathlib.Core.Bool.{Bool, true, false, _&&_, cond}
 use mathlib.Core.Logic.{_⊎_, inl, inr, ⊎-elim}
 use Prim.Native.Nat.{ℕ, zero, suc, _+_, _≤_, _<_}
@@ -9,10 +9,10 @@ use native.Mathlib.Omega.{arith}
 use lib.Dec.{T, eqb, ltb, eqb→eq, ltb→lt, lt→ltb}
 use borrow.Author.Tests.{eq-eqb, ne-eqb}
 use Rattle.arena.specs.Sets.{Set, some, least}
-use Rattle.arena.proofs.Tests.{decT, and-intro, and-l, and-r, is-false, cond-ind, cond-yes, cond-no}
+use Rattle.arena.proofs.Tests.{decT, and-intro, and-l, and-r, cond-ind, cond-yes, cond-no}
 use Rattle.arena.proofs.Sets.{lt-suc-cases, some-intro, some-elim, meets-in, meets-out}
-use Rattle.arena.proofs.Loops.{le-or-lt, some-cong, some-none}
-use Rattle.arena.proofs.Least.{least-unique, least-cong}
+use Rattle.arena.proofs.Loops.{le-or-lt}
+use Rattle.arena.proofs.Least.{least-unique}
 use Rattle.game.specs.Game.{turnAt, fromAt, toAt, hasMove}
 use Rattle.game.specs.Accepted.{Accepted}
 use Rattle.game.specs.declared.Game.{Game}

@@ -1,37 +1,28 @@
 -- A run as its loop meets it: so many splits made, and the rest of the run from here.
-use mathlib.Core.Path.{_≡_, refl, sym, ap, _∙_}
-use mathlib.Core.Bool.{Bool, true, false, true≢false}
-use Prim.Native.Nat.{ℕ, zero, suc, _+_, _-_, _≤_, _<_}
-use native.Mathlib.Nat.{zero-add, suc-add, add-suc, add-zero}
+use mathlib.Core.Path.{_≡_, refl, sym}
+use mathlib.Core.Bool.{Bool, true, false, _&&_, true≢false}
+use mathlib.Core.Logic.{⊎-elim}
+use Prim.Native.Nat.{ℕ, suc, _+_, _-_, _≤_, _<_}
+use native.Mathlib.Nat.{zero-add, add-zero}
 use native.Mathlib.Omega.{arith}
+use lib.Dec.{ltb, ltb→lt, lt→ltb}
+use Rattle.arena.proofs.Tests.{is-true, holds, fails, and-l, and-r}
+use Rattle.arena.proofs.Loops.{le-or-lt}
 use Rattle.game.specs.declared.Game.{Game}
 use Rattle.solver.specs.Run.{Word, YES, NO, OPEN, word, splitGame, Run, oneMore, ended, ifOpen, run}
-use Rattle.solver.specs.Work.{decisionOf, openWord, saidBy, after}
+use Rattle.solver.specs.Work.{decisionOf, openDecision, after}
 use Rattle.solver.specs.declared.Decision.{Decision}
-use Rattle.solver.specs.declared.Decision.the-variants.{Yes, No, Open}
 
 -- ## What a decision says
 
--- a decision is open as yet
-abbrev pub openDecision : Decision → Bool
-openDecision (Yes s) = false
-openDecision No = false
-openDecision Open = true
-
--- the decision of a round is open exactly where its word is
-pub open-is : (g : Game) (d : Decision) → d ≡ decisionOf (word g) g → openDecision d ≡ openWord (word g)
-open-is g d e = rw e (go (word g))
+-- a round whose decision is open as yet has the word OPEN
+open-word : (g : Game) (d : Decision) → d ≡ decisionOf (word g) g → openDecision d ≡ true → word g ≡ OPEN
+open-word g d e h = go (word g) (rw e at h)
   where
-    go : (w : Word) → openDecision (decisionOf w g) ≡ openWord w
-    go YES = refl
-    go NO = refl
-    go OPEN = refl
-
--- a round that is open as yet has the word OPEN
-pub open-word : (w : Word) → openWord w ≡ true → w ≡ OPEN
-open-word YES e = absurd (true≢false (sym e))
-open-word NO e = absurd (true≢false (sym e))
-open-word OPEN e = refl
+    go : (w : Word) → openDecision (decisionOf w g) ≡ true → w ≡ OPEN
+    go YES h = absurd (true≢false (sym h))
+    go NO h = absurd (true≢false (sym h))
+    go OPEN h = refl
 
 -- ## The loop of a run
 
@@ -52,13 +43,14 @@ after-more a made g l open' =
     rw (left, open') (run-eta _ _ _ _ (omega arith) refl)
 
 -- a round that is decided ends the run
-pub after-decided : (a made : ℕ) (g : Game) → made < a → openWord (word g) ≡ false → after made (run (a - made) g) ≡ record { splits = made; last = g }
+after-decided : (a made : ℕ) (g : Game) → made < a → (d : Decision) → d ≡ decisionOf (word g) g → openDecision d ≡ false
+    → after made (run (a - made) g) ≡ record { splits = made; last = g }
 unfolding after run
-after-decided a made g l shut =
+after-decided a made g l d e shut =
     let left : a - made ≡ suc (a - (made + 1)) = omega arith in
-    rw left (go (word g) shut)
+    rw left (go (word g) (rw e at shut))
   where
-    go : (w : Word) → openWord w ≡ false
+    go : (w : Word) → openDecision (decisionOf w g) ≡ false
         → _≡_ {A = Run} (record {
           splits = made + ifOpen w (oneMore (run (a - (made + 1)) (splitGame g))) (ended g) .splits;
           last = ifOpen w (oneMore (run (a - (made + 1)) (splitGame g))) (ended g) .last;
@@ -68,6 +60,23 @@ after-decided a made g l shut =
     go OPEN e = absurd (true≢false e)
 
 -- the allowance is used up
-pub after-all : (a made : ℕ) (g : Game) → made ≤ a → a ≤ made → after made (run (a - made) g) ≡ record { splits = made; last = g }
+after-all : (a made : ℕ) (g : Game) → made ≤ a → a ≤ made → after made (run (a - made) g) ≡ record { splits = made; last = g }
 unfolding after run
 after-all a made g l h = let none : a - made ≡ 0 = omega arith in rw none (run-eta _ _ _ _ (add-zero made) refl)
+
+-- a run stops where the round is decided or the allowance is used up
+pub after-stop : (a made : ℕ) (g : Game) → made ≤ a → (d : Decision) → d ≡ decisionOf (word g) g → (openDecision d && ltb made a) ≡ false
+    → after made (run (a - made) g) ≡ record { splits = made; last = g }
+after-stop a made g l d e shut = ⊎-elim (after-all a made g l) (λ more. after-decided a made g more d e (closed more (openDecision d) shut)) (le-or-lt a made)
+  where
+    closed : made < a → (x : Bool) → (x && ltb made a) ≡ false → x ≡ false
+    closed more true h = absurd (fails (ltb made a) h (lt→ltb made a more))
+    closed more false h = refl
+
+-- where a split is to be made the round is open, and the allowance is not used up
+pub goes-on : (a made : ℕ) (g : Game) (d : Decision) → d ≡ decisionOf (word g) g → (openDecision d && ltb made a) ≡ true → (word g ≡ OPEN) × (made < a)
+goes-on a made g d e h =
+    let both = holds (openDecision d && ltb made a) h in (
+      open-word g d e (is-true (openDecision d) (and-l (openDecision d) (ltb made a) both)),
+      ltb→lt made a (and-r (openDecision d) (ltb made a) both),
+    )

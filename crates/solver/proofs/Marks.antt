@@ -1,14 +1,14 @@
 -- What the rows at work say in 01's words: the marks, and the decision.
-use mathlib.Core.Path.{_≡_, refl, sym, ap, _∙_, subst}
+use mathlib.Core.Path.{_≡_, refl, sym, ap, _∙_}
 use mathlib.Core.Bool.{Bool, true, false, not, _&&_, cond, true≢false}
 use mathlib.Core.List.{List}
-use Prim.Native.Nat.{ℕ, zero, suc, _≤_, _<_}
+use Prim.Native.Nat.{ℕ, _<_}
 use lib.ListN.{getD}
-use lib.Dec.{T, eqb, leb}
-use Rattle.arena.specs.Sets.{Set, compl, some, least}
+use lib.Dec.{eqb, leb, eqb→eq}
+use borrow.Author.Tests.{eq-eqb, ne-eqb}
+use Rattle.arena.specs.Sets.{Set, least}
 use Rattle.arena.specs.Win.{Goal, toReach, toStay}
 use Rattle.arena.proofs.Tests.{not-not, is-true, holds}
-use Rattle.arena.proofs.Loops.{some-cong}
 use Rattle.arena.proofs.Least.{least-none, least-one, least-cong}
 use Rattle.game.specs.Limits.{maxStates}
 use Rattle.game.specs.Rows.{fill, zeros}
@@ -17,16 +17,15 @@ use Rattle.game.specs.Arena.{goalOf, arenaOf}
 use Rattle.game.specs.declared.Game.{Game}
 use Rattle.game.proofs.Rows.{fill-at, fill-cong}
 use Rattle.blocks.specs.Round.{sure, possible}
-use Rattle.blocks.specs.Hunt.{hunter, prey, insideStep, meetsStep, lower, upper}
+use Rattle.blocks.specs.Hunt.{hunter, prey, lower, upper}
 use Rattle.blocks.proofs.Sound.{sure-possible}
 use Rattle.blocks.proofs.Hunt.{lower-upper, sure-reach, possible-reach, sure-stay, possible-stay}
-use Rattle.rounds.specs.Stamp.{isIn, stamp}
+use Rattle.rounds.specs.Stamp.{isIn}
 use Rattle.rounds.proofs.Stamp.{passes-set}
-use Rattle.solver.specs.Run.{sureStates, possibleStates, Word, YES, NO, OPEN, word}
+use Rattle.solver.specs.Run.{sureStates, possibleStates, word}
 use Rattle.solver.specs.Plan.{mark}
 use Rattle.solver.specs.Solve.{namedStart}
-use Rattle.solver.specs.Work.{markNo, preyStates, lowerStates, upperStates, lowerRow, upperRow, markRow, decisionOf}
-use Rattle.solver.specs.declared.Decision.{Decision}
+use Rattle.solver.specs.Work.{markNo, preyStates, lowerStates, upperStates, lowerRow, upperRow, markRow, lowestStart, decisionBy, decisionOf}
 use Rattle.solver.specs.declared.Decision.the-variants.{Yes, No, Open}
 
 -- ## The rows of passes say the hunter's sets
@@ -157,25 +156,64 @@ module _ (g : Game) (marks : List ℕ) (marks-is : marks ≡ markRow g) where
 
   module _ (r : ℕ) (p : r ≡ least (g .states) (λ s. initials g s && leb 1 (getD marks s 0))) where
     -- no initial state is possible
-    pub decide-no : r ≡ g .states → No ≡ decisionOf (word g) g
+    word-no : r ≡ g .states → No ≡ decisionOf (word g) g
     unfolding word possible-start
-    decide-no e = rw (least-none (g .states) possible-start (sym (maybe r p) ∙ e)) refl
+    word-no e = rw (least-none (g .states) possible-start (sym (maybe r p) ∙ e)) refl
 
     module _ (v : ℕ) (q : v ≡ least (g .states) (λ s. initials g s && leb 2 (getD marks s 0))) (some-possible : r ≡ g .states → ⊥) where
       -- some is possible and none sure
-      pub decide-open : v ≡ g .states → Open ≡ decisionOf (word g) g
+      word-open : v ≡ g .states → Open ≡ decisionOf (word g) g
       unfolding word possible-start sure-start
-      decide-open e =
+      word-open e =
           rw (
             least-one (g .states) possible-start (λ h. some-possible (maybe r p ∙ h)),
             least-none (g .states) sure-start (sym (surely v q) ∙ e),
           ) refl
 
       -- some is sure, and v is the lowest such
-      pub decide-yes : (v ≡ g .states → ⊥) → Yes (stateNo v) ≡ decisionOf (word g) g
+      word-yes : (v ≡ g .states → ⊥) → Yes (stateNo v) ≡ decisionOf (word g) g
       unfolding word namedStart possible-start sure-start
-      decide-yes ne =
+      word-yes ne =
           rw (
             least-one (g .states) possible-start (λ h. some-possible (maybe r p ∙ h)),
             least-one (g .states) sure-start (λ h. ne (surely v q ∙ h)),
           ) (ap (λ (n : ℕ). Yes (stateNo n)) (surely v q))
+
+  -- what a round says by its marks is what its word says
+  pub decision-is : decisionBy (g .states) (g .marks) marks ≡ decisionOf (word g) g
+  unfolding decisionBy
+  decision-is = go (eqb maybe-start (g .states)) refl (eqb surely-start (g .states)) refl
+    where
+      maybe-start : ℕ
+      maybe-start = lowestStart (g .states) (g .marks) marks 1
+
+      surely-start : ℕ
+      surely-start = lowestStart (g .states) (g .marks) marks 2
+
+      other : (a b : ℕ) → eqb a b ≡ false → a ≡ b → ⊥
+      other a b p e = true≢false (sym (eq-eqb a b e) ∙ p)
+
+      go : (x : Bool) → eqb maybe-start (g .states) ≡ x → (y : Bool) → eqb surely-start (g .states) ≡ y
+          → cond x No (cond y Open (Yes (stateNo surely-start))) ≡ decisionOf (word g) g
+      go true p y q = word-no maybe-start refl (eqb→eq _ _ (rw p tt))
+      go false p true q = word-open maybe-start refl surely-start refl (other _ _ p) (eqb→eq _ _ (rw q tt))
+      go false p false q = word-yes maybe-start refl surely-start refl (other _ _ p) (other _ _ q)
+
+-- ## The decision, from what two searches gave
+
+module _ (n : ℕ) (starts marks : List ℕ) (r : ℕ) (p : r ≡ lowestStart n starts marks 1) where
+  -- no start is at least open
+  pub decided-no : r ≡ n → No ≡ decisionBy n starts marks
+  unfolding decisionBy
+  decided-no e = rw (eq-eqb _ _ (sym p ∙ e)) refl
+
+  module _ (v : ℕ) (q : v ≡ lowestStart n starts marks 2) (some-open : r ≡ n → ⊥) where
+    -- some start is open, and none is sure
+    pub decided-open : v ≡ n → Open ≡ decisionBy n starts marks
+    unfolding decisionBy
+    decided-open e = rw (ne-eqb _ _ (λ h. some-open (p ∙ h)), eq-eqb _ _ (sym q ∙ e)) refl
+
+    -- v is the lowest start that is sure
+    pub decided-yes : (v ≡ n → ⊥) → Yes (stateNo v) ≡ decisionBy n starts marks
+    unfolding decisionBy
+    decided-yes ne = rw (ne-eqb _ _ (λ h. some-open (p ∙ h)), ne-eqb _ _ (λ h. ne (q ∙ h)), q) refl

@@ -8,17 +8,17 @@ use native.Mathlib.Nat.{le-refl}
 use native.Mathlib.Omega.{arith}
 use lib.ListN.{getD}
 use lib.Dec.{T, eqb, ltb, eqb·suc-zero}
-use borrow.Author.Tests.{lt-ltb, le-ltb}
+use borrow.Author.Tests.{le-ltb}
 use Rattle.arena.specs.Sets.{Set, compl, some, least}
 use Rattle.arena.specs.Game.{Side, one, two, other, same, mine}
 use Rattle.arena.specs.Win.{Goal, toReach, toStay}
-use Rattle.arena.specs.Passes.{grow, rank}
-use Rattle.arena.proofs.Tests.{not-not, is-true, is-false, holds, fails}
+use Rattle.arena.specs.Passes.{grow}
+use Rattle.arena.proofs.Tests.{not-not, holds, fails}
 use Rattle.arena.proofs.Loops.{le-or-lt, some-cong, some-none}
 use Rattle.arena.proofs.Least.{least-cong}
 use Rattle.arena.proofs.Passes.{rank-le}
 use Rattle.game.specs.Limits.{maxStates}
-use Rattle.game.specs.Rows.{fill, zeros, Cells}
+use Rattle.game.specs.Rows.{zeros}
 use Rattle.game.specs.Game.{knownTurn, blockAt, turnAt, targets, hasMove}
 use Rattle.game.specs.Arena.{sideOf, goalOf, arenaOf}
 use Rattle.game.specs.Accepted.{Accepted}
@@ -27,11 +27,11 @@ use Rattle.game.specs.declared.Game.{Game}
 use Rattle.game.proofs.Rows.{fill-at}
 use Rattle.game.proofs.Turns.{same-turn, other-turn}
 use Rattle.blocks.specs.Round.{sure, possible}
-use Rattle.blocks.specs.Hunt.{hunter, prey, insideStep, lower, upper}
+use Rattle.blocks.specs.Hunt.{hunter, insideStep, lower}
 use Rattle.blocks.proofs.Hunt.{sure-reach, possible-reach, sure-stay, never-stay, entered-rank, left-rank}
 use Rattle.rounds.proofs.Stamp.{stamp-rank}
-use Rattle.solver.specs.Run.{sureStates, possibleStates, Word, YES, NO, OPEN, word}
-use Rattle.solver.specs.Plan.{noMove, successors, advice, earlierSure, earlierNever, rule, planned}
+use Rattle.solver.specs.Run.{Word, YES, NO, OPEN, word}
+use Rattle.solver.specs.Plan.{noMove, successors, advice, rule, planned}
 use Rattle.solver.specs.Work.{goodMove, lowestGood, huntingSide, preyStates, lowerStates, upperStates, lowerRow, upperRow, chaseRank, chaseRule, fleeRule, winnerRule, decisionOf}
 use Rattle.solver.specs.declared.Decision.{Decision}
 use Rattle.solver.specs.declared.Decision.the-variants.{Yes, No, Open}
@@ -149,9 +149,6 @@ module _ (g : Game) where
   rank-prey t e =
       let h = rank-le (g .states) (insideStep (arenaOf g) (blockAt g) (huntingSide g)) (preyStates g) 0 t (omega arith) .1 (holds (preyStates g t) e) in
       omega arith
-
-  chasing : Set
-  chasing t = lowerStates g t && not (preyStates g t)
 
   -- one who hunts, told to move: earlier is good
   chase-told : (s t : ℕ) → s < g .states → t < g .states → (lowerStates g s && not (preyStates g s)) ≡ true

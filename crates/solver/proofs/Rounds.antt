@@ -14,7 +14,7 @@ use Rattle.game.specs.Accepted.{Accepted, Precise}
 use Rattle.game.specs.declared.Game.{Game}
 use Rattle.game.proofs.Rows.{fill-cell}
 use Rattle.blocks.specs.Blocks.{blockCount, isBlock, split}
-use Rattle.blocks.specs.Round.{undecided, borderBlock}
+use Rattle.blocks.specs.Round.{undecided}
 use Rattle.blocks.proofs.Blocks.{Named}
 use Rattle.blocks.proofs.Border.{LowestBorder, border-splits, border-block}
 use Rattle.blocks.proofs.Split.{count-cong, split-finer, split-named, split-count}
@@ -83,11 +83,6 @@ module _ (g : Game) (ok : Accepted g) where
       let w = says g OPEN e in
       border-block (arenaOf g) (blockAt g) (goalOf (g .objective)) (targets g) accepted-named (ok .precise-target) (w .0) (w .1) (w .3)
 
-  -- where it is open there is a border block
-  pub undecided-has-border : word g ≡ OPEN → borderOf g < g .states
-  unfolding arenaOf
-  undecided-has-border e = open-border-block e .state
-
   -- where it is open, the split is proper: that block has members inside the known set and others
   pub open-splits : word g ≡ OPEN
       → ((s : ℕ) × (s < g .states) × (blockAt g s ≡ borderOf g) × T (knownStates g s))
@@ -110,26 +105,6 @@ module _ (g : Game) where
   unfolding splitGame
   split-block s l =
       ap (λ b. b .0) (fill-cell (g .states) (λ s. blockNo (split (g .states) (blockAt g) (borderOf g) (knownStates g) s)) (g .block) s (blockNo 0) l)
-
-  -- a split keeps the states, the turns and the moves
-  pub split-arena : arenaOf (splitGame g) ≡ arenaOf g
-  unfolding splitGame arenaOf hasMove
-  split-arena = refl
-
-  -- a split keeps the count of states
-  pub split-states : splitGame g .states ≡ g .states
-  unfolding splitGame
-  split-states = refl
-
-  -- a split keeps the objective
-  pub split-objective : splitGame g .objective ≡ g .objective
-  unfolding splitGame
-  split-objective = refl
-
-  -- a split keeps the marks, and with them starts and target
-  pub split-marks : splitGame g .marks ≡ g .marks
-  unfolding splitGame
-  split-marks = refl
 
 module _ (g : Game) (ok : Accepted g) where
   -- the new blocks are named by their lowest members

@@ -6,7 +6,7 @@ use mathlib.Core.List.{List}
 use native.Mathlib.Nat.{not-suc-le-zero, le-of-suc-le-suc}
 use native.Mathlib.Omega.{arith}
 use lib.Dec.{T}
-use Rattle.game.specs.Game.{blockAt, initials, targets, hasMove}
+use Rattle.game.specs.Game.{blockAt, initials, targets}
 use Rattle.game.specs.Arena.{goalOf, arenaOf}
 use Rattle.game.specs.Accepted.{Accepted}
 use Rattle.game.specs.declared.BlockNo.{BlockNo}
@@ -53,56 +53,17 @@ module _ (a : ℕ) (g : Game) where
   pub run-states : run a g .last .states ≡ g .states
   run-states = ap (λ h. h .states) (run-kept a g)
 
-  -- the objective is the same
-  pub run-objective : run a g .last .objective ≡ g .objective
-  run-objective = ap (λ h. h .objective) (run-kept a g)
-
   -- the initial states are the same
   pub run-initials : initials (run a g .last) ≡ initials g
   run-initials = ap initials (run-kept a g)
 
-  -- the target is the same
-  pub run-targets : targets (run a g .last) ≡ targets g
-  run-targets = ap targets (run-kept a g)
-
-  -- the moves are the same
-  pub run-moves : hasMove (run a g .last) ≡ hasMove g
-  unfolding hasMove
-  run-moves = ap hasMove (run-kept a g)
-
-  -- states, turns and moves are the same
-  pub run-arena : arenaOf (run a g .last) ≡ arenaOf g
-  unfolding arenaOf hasMove
-  run-arena = ap arenaOf (run-kept a g)
-
 -- ## The rounds
-
--- the next round's game is this round's, split
-pub round-next : (k : ℕ) (g : Game) → round (suc k) g ≡ splitGame (round k g)
-unfolding round
-round-next zero g = refl
-round-next (suc k) g = round-next k (splitGame g)
 
 -- each round's game is accepted where the first is
 pub round-accepted : (k : ℕ) (g : Game) → Accepted g → Accepted (round k g)
 unfolding round
 round-accepted zero g ok = ok
 round-accepted (suc k) g ok = round-accepted k (splitGame g) (split-accepted g ok)
-
--- the run ends in the round after its last split
-pub run-last : (a : ℕ) (g : Game) → run a g .last ≡ round (run a g .splits) g
-unfolding run round
-run-last zero g = refl
-run-last (suc a) g = go (word g) (run-last a (splitGame g))
-  where
-    more : Run
-    more = run a (splitGame g)
-
-    go : (w : Word) → more .last ≡ round (more .splits) (splitGame g)
-        → ifOpen w (oneMore more) (ended g) .last ≡ round (ifOpen w (oneMore more) (ended g) .splits) g
-    go YES ih = refl
-    go NO ih = refl
-    go OPEN ih = ih
 
 -- each round before the last is open
 pub run-open : (a : ℕ) (g : Game) (k : ℕ) → k < run a g .splits → word (round k g) ≡ OPEN

@@ -1,44 +1,42 @@
 -- The round as the code works it out: its rows, and the split of its border block.
-use mathlib.Core.Path.{_≡_, refl, sym, ap, ap₂, _∙_, fun-ext}
-use mathlib.Core.Bool.{Bool, true, false, not, _&&_, cond, Bool·beq, true≢false}
+use mathlib.Core.Path.{_≡_, refl, sym, ap, _∙_}
+use mathlib.Core.Bool.{Bool, true, false, not, _&&_}
 use mathlib.Core.List.{List}
 use Prim.Native.Nat.{ℕ, _<_}
 use native.Mathlib.Omega.{arith}
 use lib.ListN.{getD}
 use lib.Dec.{T, eqb}
 use borrow.Author.Tests.{eq-eqb}
-use Rattle.arena.specs.Sets.{Set, bit, some, least}
+use Rattle.arena.specs.Sets.{Set, bit, some}
 use Rattle.arena.specs.Game.{Side, forced}
-use Rattle.arena.proofs.Tests.{is-true, and-intro, holds, fails}
+use Rattle.arena.proofs.Tests.{is-true, and-intro}
 use Rattle.arena.proofs.Sets.{some-intro}
 use Rattle.arena.proofs.Passes.{mono-ext}
 use Rattle.arena.proofs.Forced.{forced-mono}
 use Rattle.arena.proofs.Least.{least-cong}
 use Rattle.game.specs.Limits.{maxStates}
 use Rattle.game.specs.Rows.{fill, zeros}
-use Rattle.game.specs.Game.{blockNo, blockAt, targets}
+use Rattle.game.specs.Game.{knownTurn, marked, blockNo, blockAt, targets}
 use Rattle.game.specs.Arena.{sideOf, goalOf, arenaOf}
 use Rattle.game.specs.Accepted.{Accepted}
 use Rattle.game.specs.declared.BlockNo.{BlockNo}
 use Rattle.game.specs.declared.Game.{Game}
-use Rattle.game.proofs.Rows.{fill-at, fill-cong}
-use Rattle.blocks.specs.Blocks.{meets, isBlock, split}
+use Rattle.blocks.specs.Blocks.{meets, isBlock}
 use Rattle.blocks.specs.Round.{border, borderBlock}
-use Rattle.blocks.specs.Hunt.{insideStep, meetsStep, lower}
-use Rattle.blocks.proofs.Blocks.{meets-mono}
+use Rattle.blocks.specs.Hunt.{hunter, prey, insideStep, meetsStep, lower}
 use Rattle.blocks.proofs.Hunt.{undecided-hunter, known-hunter}
 use Rattle.rounds.specs.Stamp.{passAt, isIn, stampFrom, stamp, joining}
 use Rattle.rounds.specs.Border.{bordering, borderAnswer}
-use Rattle.rounds.specs.Split.{ones, withSplit}
+use Rattle.rounds.specs.Split.{ones, splitRow}
 use Rattle.rounds.specs.declared.Border.{Border}
 use Rattle.rounds.specs.declared.Border.the-variants.{At, Nothing}
 use Rattle.rounds.proofs.Stamp.{passes-from}
 use Rattle.rounds.proofs.Joining.{joining-mono}
 use Rattle.rounds.proofs.RowSets.{bordering-sets, ones-row, split-cong}
 use Rattle.solver.specs.Run.{knownStates, borderOf, OPEN, word, splitGame}
-use Rattle.solver.specs.Work.{huntingSide, preyStates, lowerStates, upperStates, lowerRow, upperRow}
+use Rattle.solver.specs.Work.{markNo, huntingSide, preyStates, lowerStates, upperStates, lowerRow, upperRow, Worked, OpenRound, decisionBy, decisionOf}
 use Rattle.solver.proofs.Rounds.{open-border-block}
-use Rattle.solver.proofs.Marks.{in-lower, in-upper}
+use Rattle.solver.proofs.Marks.{in-lower, in-upper, marks-are, decision-is}
 
 -- ## The rows of passes
 
@@ -57,6 +55,46 @@ module _ (g : Game) (side : ℕ) (hunts : sideOf side ≡ huntingSide g) (first 
   upper-worked e =
       e ∙ passes-from (g .states) (joining g side false) (joining-mono g side false) (preyStates g) first (zeros maxStates) prey-is (g .states)
       ∙ ap (λ (i : Side). fill (g .states) (stamp (meetsStep (arenaOf g) (blockAt g) i) (preyStates g) (g .states)) (zeros maxStates)) hunts
+
+-- the rows of a round for a game that has this many states, this objective and these marks in its file
+module _ (g : Game) (ok : Accepted g) (n objective : ℕ) (starts : List ℕ) (e : g .states ≡ n) (q : g .objective ≡ objective) (m : g .marks ≡ starts)
+    (side : ℕ) (hunts : sideOf side ≡ hunter (goalOf objective)) (first low up marks : List ℕ)
+    (prey-is : first ≡ fill n (λ s. bit (prey (goalOf objective) (λ t. marked 2 (getD starts t 0)) s)) (zeros maxStates))
+    (low-is : low ≡ fill (g .states) (stampFrom (joining g side true) (passAt first) (g .states)) first)
+    (up-is : up ≡ fill (g .states) (stampFrom (joining g side false) (passAt first) (g .states)) first)
+    (marks-is : marks ≡ fill n (λ s. markNo objective (getD low s 0) (getD up s 0)) (zeros maxStates)) where
+  hunts-here : sideOf side ≡ huntingSide g
+  hunts-here = rw q hunts
+
+  prey-here : first ≡ fill (g .states) (λ s. bit (preyStates g s)) (zeros maxStates)
+  prey-here = rw (e, q, m) prey-is
+
+  -- the round is worked out
+  round-worked : Worked g (record { lower = low; upper = up; marks = marks })
+  round-worked =
+      let lower-is = lower-worked g side hunts-here first low prey-here low-is in
+      let upper-is = upper-worked g side hunts-here first up prey-here up-is in
+      record { accepted = ok; lower-is = lower-is; upper-is = upper-is; marks-is = marks-are g low up marks lower-is upper-is (rw (e, q) marks-is) }
+
+  -- what it decides is what its word says
+  round-decides : decisionBy n starts marks ≡ decisionOf (word g) g
+  round-decides = rw (← e, ← m) (decision-is g marks (round-worked .marks-is))
+
+  -- it is ready for its split
+  round-open : T (knownTurn side) → word g ≡ OPEN → OpenRound g side low up
+  round-open known undecided =
+      record {
+        accepted = ok;
+        hunts = hunts-here;
+        turn-known = known;
+        lower-is = round-worked .lower-is;
+        upper-is = round-worked .upper-is;
+        undecided = undecided;
+      }
+
+  -- all of this
+  pub round-made : Worked g (record { lower = low; upper = up; marks = marks }) × (decisionBy n starts marks ≡ decisionOf (word g) g) × (T (knownTurn side) → word g ≡ OPEN → OpenRound g side low up)
+  round-made = (round-worked, round-decides, round-open)
 
 -- ## The split
 
@@ -101,13 +139,28 @@ module _ (g : Game) (side : ℕ) (hunts : sideOf side ≡ huntingSide g) where
       named b q = rw (eq-eqb (blockAt g b) b q) tt
 
 -- the split by what the code works out is the game's
-pub split-worked : (g : Game) (side : ℕ) → sideOf side ≡ huntingSide g → (known : List ℕ)
-    → known ≡ fill (g .states) (λ s. bit (forced (arenaOf g) (sideOf side) (isIn (lowerRow g)) s)) (zeros maxStates)
-    → (b : ℕ) → b ≡ borderOf g → withSplit g b (ones known) ≡ splitGame g
-unfolding withSplit splitGame
-split-worked g side hunts known e b q =
-    rw q (split-cong g (borderOf g) (ones known) (knownStates g)
-    (λ s l. ones-row (g .states) (forced (arenaOf g) (sideOf side) (isIn (lowerRow g))) known (zeros maxStates) e s l ∙ known-is g side hunts s l))
+pub split-worked : (g : Game) (side : ℕ) → sideOf side ≡ huntingSide g → (low : List ℕ) → low ≡ lowerRow g → (known : List ℕ)
+    → known ≡ fill (g .states) (λ s. bit (forced (arenaOf g) (sideOf side) (isIn low) s)) (zeros maxStates)
+    → (b : ℕ) → b ≡ borderOf g → splitRow (g .states) (g .block) b (ones known) ≡ splitGame g .block
+unfolding splitRow splitGame
+split-worked g side hunts low low-is known e b q =
+    rw q (split-cong (g .states) (g .block) (borderOf g) (ones known) (knownStates g)
+    (λ s l. ones-row (g .states) (forced (arenaOf g) (sideOf side) (isIn low)) known (zeros maxStates) e s l ∙ rw low-is (known-is g side hunts s l)))
+
+-- the game with its new blocks and all else as it was
+pub split-game : (g : Game) (blocks : List BlockNo) → blocks ≡ splitGame g .block
+    → record {
+      states = g .states;
+      moves = g .moves;
+      objective = g .objective;
+      turn = g .turn;
+      marks = g .marks;
+      block = blocks;
+      from = g .from;
+      to = g .to;
+    } ≡ splitGame g
+unfolding splitGame
+split-game g blocks e = rw e refl
 
 -- what the match on the search's answer knows
 pub at-number : (found : Border) (a b : BlockNo) → found ≡ At a → found ≡ At b → a .0 ≡ b .0

@@ -1,6 +1,6 @@
 -- 01, 'What is handed back': the marks, and the four rules of the plan.
 use Prim.Native.Nat.{ℕ}
-use mathlib.Core.Bool.{Bool, not, _&&_, cond}
+use mathlib.Core.Bool.{not, _&&_, cond}
 use lib.Dec.{ltb}
 use Rattle.arena.specs.Sets.{Set, some, least}
 use Rattle.arena.specs.Game.{Side, one, two, mine}

@@ -4,20 +4,21 @@ use Prim.Native.Nat.{ℕ, zero, suc, _+_}
 use mathlib.Core.Path.{_≡_}
 use mathlib.Core.Bool.{Bool, true, false, not, _&&_, cond}
 use mathlib.Core.List.{List}
-use lib.Dec.{eqb, ltb}
-use Rattle.arena.specs.Sets.{Set, compl}
+use lib.ListN.{getD}
+use lib.Dec.{T, eqb, leb, ltb}
+use Rattle.arena.specs.Sets.{Set, compl, least}
 use Rattle.arena.specs.Game.{Side, other, same}
 use Rattle.arena.specs.Win.{Goal}
 use Rattle.arena.specs.Passes.{rank}
 use Rattle.game.specs.Limits.{maxStates}
 use Rattle.game.specs.Rows.{fill, zeros}
-use Rattle.game.specs.Game.{stateNo, turnAt, blockAt, fromAt, toAt, targets}
-use Rattle.game.specs.Arena.{goalOf, arenaOf}
+use Rattle.game.specs.Game.{stateNo, knownTurn, marked, turnAt, blockAt, fromAt, toAt, targets}
+use Rattle.game.specs.Arena.{sideOf, goalOf, arenaOf}
 use Rattle.game.specs.Accepted.{Accepted}
 use Rattle.game.specs.declared.Game.{Game}
 use Rattle.blocks.specs.Hunt.{hunter, prey, insideStep, meetsStep, lower, upper}
 use Rattle.rounds.specs.Stamp.{stamp}
-use Rattle.solver.specs.Run.{Word, YES, NO, OPEN, Run}
+use Rattle.solver.specs.Run.{Word, YES, NO, OPEN, word, Run}
 use Rattle.solver.specs.Plan.{mark, noMove, advice}
 use Rattle.solver.specs.Solve.{namedStart}
 use Rattle.solver.specs.declared.Decision.{Decision}
@@ -73,12 +74,31 @@ upperRow g = fill (g .states) (stamp (meetsStep (arenaOf g) (blockAt g) (hunting
 unfoldable pub markRow : Game → List ℕ
 markRow g = fill (g .states) (mark g) (zeros maxStates)
 
--- a round that is worked out
-pub record Worked (r : Round) : Type 0 where
-  pub accepted : Accepted (r .game)
-  pub lower-is : r .lower ≡ lowerRow (r .game)
-  pub upper-is : r .upper ≡ upperRow (r .game)
-  pub marks-is : r .marks ≡ markRow (r .game)
+-- a round that is worked out for an accepted game
+pub record Worked (g : Game) (r : Round) : Type 0 where
+  pub accepted : Accepted g
+  pub lower-is : r .lower ≡ lowerRow g
+  pub upper-is : r .upper ≡ upperRow g
+  pub marks-is : r .marks ≡ markRow g
+
+-- the rows of a round that is open as yet, and the side that hunts
+pub record OpenRound (g : Game) (side : ℕ) (low up : List ℕ) : Type 0 where
+  pub accepted : Accepted g
+  pub hunts : sideOf side ≡ huntingSide g
+  pub turn-known : T (knownTurn side)
+  pub lower-is : low ≡ lowerRow g
+  pub upper-is : up ≡ upperRow g
+  pub undecided : word g ≡ OPEN
+
+-- the lowest-numbered start with at least a mark, n where there is none: `starts` holds the marks of the file, `marks` those of the round
+abbrev pub lowestStart : ℕ → List ℕ → List ℕ → ℕ → ℕ
+lowestStart n starts marks wanted = least n (λ s. marked 1 (getD starts s 0) && leb wanted (getD marks s 0))
+
+-- what a round says by its marks
+unfoldable pub decisionBy : ℕ → List ℕ → List ℕ → Decision
+decisionBy n starts marks =
+    cond (eqb (lowestStart n starts marks 1) n) No
+    (cond (eqb (lowestStart n starts marks 2) n) Open (Yes (stateNo (lowestStart n starts marks 2))))
 
 -- what a round says of its game, by its word
 abbrev pub decisionOf : Word → Game → Decision
@@ -92,11 +112,11 @@ saidBy (Yes s) splits = VerdictYes s splits
 saidBy No splits = VerdictNo splits
 saidBy Open splits = VerdictOpen splits
 
--- the round is open as yet
-abbrev pub openWord : Word → Bool
-openWord YES = false
-openWord NO = false
-openWord OPEN = true
+-- a decision is open as yet
+abbrev pub openDecision : Decision → Bool
+openDecision (Yes s) = false
+openDecision No = false
+openDecision Open = true
 
 -- a run of which some splits were made before
 unfoldable pub after : ℕ → Run → Run

@@ -2,18 +2,21 @@
 use decoding::Answer;
 use game::Game;
 use game::StateNo;
+use rounds::BlockRow;
 use rounds::Border;
 ghost use mathlib.Core.Path.{_≡_};
+ghost use mathlib.Core.Bool.{_&&_};
 ghost use Prim.Native.Nat.{_≤_};
 ghost use lib.ListN.{length};
+ghost use lib.Dec.{ltb};
 ghost use Rattle.game.specs.Limits.{maxStates};
 ghost use Rattle.game.specs.Rows.{fill};
 ghost use Rattle.game.specs.Game.{blockAt};
 ghost use Rattle.game.specs.Accepted.{Accepted};
-ghost use Rattle.solver.specs.Run.{OPEN, word, splitGame, run};
+ghost use Rattle.solver.specs.Run.{word, splitGame, run};
 ghost use Rattle.solver.specs.Plan.{mark, planned};
 ghost use Rattle.solver.specs.Solve.{said, solveVerdict, solveMarks, solveBlocks, solveMoves};
-ghost use Rattle.solver.specs.Work.{Worked, decisionOf, openWord, saidBy};
+ghost use Rattle.solver.specs.Work.{Worked, OpenRound, decisionBy, openDecision, saidBy};
 
 mod plan;
 mod rows;
@@ -34,105 +37,96 @@ pub enum Decision {
     Open,
 }
 
-// A game with its present blocks, and what a round works out for it: the passes in which states entered what the
-// hunting side surely brings about and what it may, and the marks.
+// What a round works out for a game with its present blocks: the passes in which states entered what the hunting side
+// surely brings about and what it may, and the marks.
 pub struct Round {
-    pub game: Game,
     pub lower: [u16; Game::MAX_STATES],
     pub upper: [u16; Game::MAX_STATES],
     pub marks: [u16; Game::MAX_STATES],
 }
 
-// The splits made, and the last round.
+// The splits made, the game with the blocks of the last round, and that round.
 pub struct Run {
     pub splits: u16,
+    pub game: Game,
     pub last: Round,
 }
 
-// The round of a game with its present blocks.
-fn round_of(game: Game) -> Round
-    requires { ⌜ Accepted game ⌝ }
-    ensures { λ r. ⌜ (r .game ≡ game) × Worked r ⌝ }
-{
-    let side = rounds::hunting_side(game);
-    let prey = rounds::prey_row(game);
-    let lower = rounds::passes(game, side, true, prey);
-    let upper = rounds::passes(game, side, false, prey);
-    let marks = rows::mark_row(game, lower, upper);
-    Round {
-        game,
-        lower,
-        upper,
-        marks,
-    }
-}
-
 // No initial state possible, NO; some initial state sure, YES, with the lowest-numbered one; otherwise open as yet.
-fn decide(round: Round) -> Decision
-    requires { ⌜ Worked round ⌝ }
-    ensures { λ r. ⌜ r ≡ decisionOf (word (round .game)) (round .game) ⌝ }
+fn decide(n: usize, starts: [u8; Game::MAX_STATES], marks: [u16; Game::MAX_STATES]) -> Decision
+    requires { ⌜ n ≤ maxStates ⌝ }
+    ensures { λ r. ⌜ r ≡ decisionBy n starts marks ⌝ }
 {
-    let game = round.game;
-    let marks = round.marks;
-    let none = game.states as u16;
-    if rows::lowest_start(game, marks, 1) == none {
+    let none = n as u16;
+    if rows::lowest_start(n, starts, marks, 1) == none {
         return Decision::No;
     }
-    let named = rows::lowest_start(game, marks, 2);
+    let named = rows::lowest_start(n, starts, marks, 2);
     if named == none {
         return Decision::Open;
     }
     Decision::Yes(StateNo(named))
 }
 
-fn is_open(round: Round) -> bool
-    requires { ⌜ Worked round ⌝ }
-    ensures { λ r. ⌜ r ≡ openWord (word (round .game)) ⌝ }
+// A split is to be made: the round is open as yet, and not all allowed splits are made.
+fn goes_on(decision: Decision, made: u16, allowance: u16) -> bool
+    ensures { λ r. ⌜ r ≡ (openDecision decision && ltb made allowance) ⌝ }
 {
-    match decide(round) {
+    match decision {
         Decision::Yes(_) => false,
         Decision::No => false,
-        Decision::Open => true,
+        Decision::Open => made < allowance,
     }
 }
 
-// The game of an open round with its lowest-numbered border block split.
-fn split_border(round: Round) -> Game
-    requires { ⌜ Worked round ⌝ }
-    requires { ⌜ word (round .game) ≡ OPEN ⌝ }
-    ensures { λ r. ⌜ r ≡ splitGame (round .game) ⌝ }
+// The blocks of the game of an open round, the lowest-numbered border block split.
+fn split_border(
+    game: Game,
+    side: u8,
+    lower: [u16; Game::MAX_STATES],
+    upper: [u16; Game::MAX_STATES],
+) -> BlockRow
+    requires { ⌜ OpenRound game side lower upper ⌝ }
+    ensures { λ r. ⌜ r ≡ splitGame game .block ⌝ }
 {
-    let game = round.game;
-    let lower = round.lower;
-    let upper = round.upper;
-    let side = rounds::hunting_side(game);
+    let n = game.states;
+    let blocks = game.block;
     let known = rounds::forced_step(game, side, lower);
     match rounds::border_block(game, lower, upper, side) {
-        Border::At(block) => rounds::split_block(game, block, known),
-        Border::Nothing => game,
+        Border::At(block) => rounds::split_block(n, blocks, block, known),
+        Border::Nothing => blocks,
     }
 }
 
 // Rounds until one is decided or the splits made equal the allowance.
-fn run_rounds(game: Game, allowance: u16) -> Run
+fn run_rounds(mut game: Game, allowance: u16) -> Run
     requires { ⌜ Accepted game ⌝ }
-    ensures { λ r. ⌜ (r .splits ≡ run allowance game .splits) × (r .last .game ≡ run allowance game .last) × Worked (r .last) ⌝ }
+    ensures { λ r. ⌜ (r .splits ≡ run allowance game .splits) × (r .game ≡ run allowance game .last) × Worked (r .game) (r .last) ⌝ }
 {
-    let mut round = round_of(game);
+    let n = game.states;
+    let objective = game.objective;
+    let starts = game.marks;
+    let side = rounds::hunting_side(objective);
+    let prey = rounds::prey_row(n, objective, starts);
     let mut made: u16 = 0;
-    while made < allowance {
-        if !is_open(round) {
+    loop {
+        let lower = rounds::passes(game, side, true, prey);
+        let upper = rounds::passes(game, side, false, prey);
+        let marks = rows::mark_row(n, objective, lower, upper);
+        if !goes_on(decide(n, starts, marks), made, allowance) {
             return Run {
                 splits: made,
-                last: round,
+                game,
+                last: Round {
+                    lower,
+                    upper,
+                    marks,
+                },
             };
         }
-        round = round_of(split_border(round));
+        let blocks = split_border(game, side, lower, upper);
+        game.block = blocks;
         made += 1;
-    }
-    Run {
-        splits: made,
-        last: round,
     }
 }
 
@@ -162,13 +156,15 @@ fn solve_game(
     ensures moves { λ _. ⌜ now (moves .exit) ≡ fill (run allowance game .last .states) (planned (word (run allowance game .last)) (run allowance game .last)) (now (moves .entry)) ⌝ }
 {
     let ran = run_rounds(game, allowance);
+    let finest = ran.game;
     let last = ran.last;
-    let decision = decide(last);
-    let plan = plan::plan_row(last, decision);
-    let finest = last.game;
-    let numbers = rows::block_row(finest);
-    let worked = last.marks;
     let n = finest.states;
+    let starts = finest.marks;
+    let worked = last.marks;
+    let decision = decide(n, starts, worked);
+    let plan = plan::plan_row(finest, last, decision);
+    let block = finest.block;
+    let numbers = rounds::block_row(n, block);
     rows::write_row(n, worked, marks);
     rows::write_row(n, numbers, blocks);
     rows::write_row(n, plan, moves);

@@ -77,15 +77,14 @@ fn advice_row(
 }
 
 // The plan of the side that wins: if it hunts, it chases; otherwise it flees.
-fn winner_row(round: Round, winner: u8) -> [u16; Game::MAX_STATES]
-    requires { ⌜ Worked round ⌝ }
+fn winner_row(game: Game, round: Round, winner: u8) -> [u16; Game::MAX_STATES]
+    requires { ⌜ Worked game round ⌝ }
     requires { ⌜ T (knownTurn winner) ⌝ }
-    ensures { λ r. ⌜ ((s : ℕ) → s < round .game .states → getD r s 0 ≡ winnerRule (round .game) (sideOf winner) s) ⌝ }
+    ensures { λ r. ⌜ ((s : ℕ) → s < game .states → getD r s 0 ≡ winnerRule game (sideOf winner) s) ⌝ }
 {
-    let game = round.game;
     let lower = round.lower;
     let upper = round.upper;
-    let hunter = rounds::hunting_side(game);
+    let hunter = rounds::hunting_side(game.objective);
     if hunter == winner {
         return advice_row(game, winner, true, lower);
     }
@@ -93,14 +92,14 @@ fn winner_row(round: Round, winner: u8) -> [u16; Game::MAX_STATES]
 }
 
 // The moves row of a round: an open one has no plan.
-pub fn plan_row(round: Round, decision: Decision) -> [u16; Game::MAX_STATES]
-    requires { ⌜ Worked round ⌝ }
-    requires { ⌜ decision ≡ decisionOf (word (round .game)) (round .game) ⌝ }
-    ensures { λ r. ⌜ ((s : ℕ) → s < round .game .states → getD r s 0 ≡ planned (word (round .game)) (round .game) s) ⌝ }
+pub fn plan_row(game: Game, round: Round, decision: Decision) -> [u16; Game::MAX_STATES]
+    requires { ⌜ Worked game round ⌝ }
+    requires { ⌜ decision ≡ decisionOf (word game) game ⌝ }
+    ensures { λ r. ⌜ ((s : ℕ) → s < game .states → getD r s 0 ≡ planned (word game) game s) ⌝ }
 {
     match decision {
-        Decision::Yes(_) => winner_row(round, 1),
-        Decision::No => winner_row(round, 2),
+        Decision::Yes(_) => winner_row(game, round, 1),
+        Decision::No => winner_row(game, round, 2),
         Decision::Open => [NONE; Game::MAX_STATES],
     }
 }

@@ -1,4 +1,4 @@
-// The rows at work: marks and block numbers, and the writing of a lent row.
+// The rows at work: marks, the search by them, and the writing of a lent row.
 use game::Game;
 use game::has_mark;
 ghost use mathlib.Core.Path.{_≡_};
@@ -6,12 +6,10 @@ ghost use mathlib.Core.Bool.{_&&_};
 ghost use Prim.Native.Nat.{_≤_};
 ghost use lib.ListN.{length, getD};
 ghost use lib.Dec.{leb};
-ghost use Rattle.arena.specs.Sets.{least};
 ghost use Rattle.game.specs.Limits.{maxStates};
 ghost use Rattle.game.specs.Rows.{fill, zeros};
-ghost use Rattle.game.specs.Game.{marked, blockAt, initials};
-ghost use Rattle.game.specs.Accepted.{Accepted};
-ghost use Rattle.solver.specs.Work.{markNo};
+ghost use Rattle.game.specs.Game.{marked};
+ghost use Rattle.solver.specs.Work.{markNo, lowestStart};
 
 // 2 for sure, 1 for open, 0 for never, by the passes of the hunting side: in a reach game it is side 1.
 fn mark_no(objective: u16, lower: u16, upper: u16) -> u16
@@ -28,15 +26,14 @@ fn mark_no(objective: u16, lower: u16, upper: u16) -> u16
 
 // The mark of each state.
 pub fn mark_row(
-    game: Game,
+    n: usize,
+    objective: u16,
     lower: [u16; Game::MAX_STATES],
     upper: [u16; Game::MAX_STATES],
 ) -> [u16; Game::MAX_STATES]
-    requires { ⌜ Accepted game ⌝ }
-    ensures { λ r. ⌜ r ≡ fill (game .states) (λ s. markNo (game .objective) (getD lower s 0) (getD upper s 0)) (zeros maxStates) ⌝ }
+    requires { ⌜ n ≤ maxStates ⌝ }
+    ensures { λ r. ⌜ r ≡ fill n (λ s. markNo objective (getD lower s 0) (getD upper s 0)) (zeros maxStates) ⌝ }
 {
-    let n = game.states;
-    let objective = game.objective;
     let mut marks = [0u16; Game::MAX_STATES];
     let mut s: usize = 0;
     while s < n {
@@ -57,34 +54,23 @@ fn is_start(marks: u8, mark: u16, wanted: u16) -> bool
 }
 
 // The lowest-numbered initial state with at least this mark, or the number of states where there is none.
-pub fn lowest_start(game: Game, marks: [u16; Game::MAX_STATES], wanted: u16) -> u16
-    requires { ⌜ Accepted game ⌝ }
-    ensures { λ r. ⌜ r ≡ least (game .states) (λ s. initials game s && leb wanted (getD marks s 0)) ⌝ }
+pub fn lowest_start(
+    n: usize,
+    starts: [u8; Game::MAX_STATES],
+    marks: [u16; Game::MAX_STATES],
+    wanted: u16,
+) -> u16
+    requires { ⌜ n ≤ maxStates ⌝ }
+    ensures { λ r. ⌜ r ≡ lowestStart n starts marks wanted ⌝ }
 {
-    let n = game.states;
     let mut s: usize = 0;
     while s < n {
-        if is_start(game.marks[s], marks[s], wanted) {
+        if is_start(starts[s], marks[s], wanted) {
             return s as u16;
         }
         s += 1;
     }
     n as u16
-}
-
-// The number of each state's block.
-pub fn block_row(game: Game) -> [u16; Game::MAX_STATES]
-    requires { ⌜ Accepted game ⌝ }
-    ensures { λ r. ⌜ r ≡ fill (game .states) (blockAt game) (zeros maxStates) ⌝ }
-{
-    let n = game.states;
-    let mut blocks = [0u16; Game::MAX_STATES];
-    let mut s: usize = 0;
-    while s < n {
-        blocks[s] = game.block[s].0;
-        s += 1;
-    }
-    blocks
 }
 
 // Writes the first n places of a row that is lent. The rest keep their content.

@@ -7,18 +7,17 @@ use lib.Dec.{eqb}
 use borrow.Author.Tests.{eq-eqb, ne-eqb}
 use Rattle.arena.specs.Sets.{some}
 use Rattle.arena.proofs.Loops.{some-still}
-use Rattle.game.specs.Game.{blockAt}
-use Rattle.rounds.specs.Split.{ones}
+use Rattle.rounds.specs.Split.{ones, numberAt}
 use Rattle.game.proofs.Small.{sweep}
 use Rattle.arena.proofs.Least.{least-found, least-done}
 use Rattle.rounds.proofs.lowest_member.Statement.{statement}
 use Rattle.rounds.proofs.lowest_member.Tie as tie
 
 abbrev Inv-loop : tie.InvT-loop
-Inv-loop b want g inside n s₀ s = (s ≤ n) × (some s (λ t. eqb (blockAt g t) (b .0) && Bool·beq (ones inside t) want) ≡ false)
+Inv-loop n b want block inside s₀ s = (s ≤ n) × (some s (λ t. eqb (numberAt block t) (b .0) && Bool·beq (ones inside t) want) ≡ false)
 
 abbrev μ-loop : tie.MeasureT-loop
-μ-loop b want g inside n s₀ s = n - s
+μ-loop n b want block inside s₀ s = n - s
 
 pub lowest-member-spec : {M : Type 1} → statement M
 lowest-member-spec =

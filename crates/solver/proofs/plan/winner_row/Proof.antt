@@ -1,7 +1,6 @@
 -- `winner_row` meets its contract.
-use mathlib.Core.Path.{_≡_, sym, ap, _∙_}
+use mathlib.Core.Path.{sym, ap, _∙_}
 use native.Mathlib.Omega.{arith}
-use Prim.Native.Nat.{ℕ}
 use borrow.Author.Needs.{needs}
 use Rattle.game.specs.Arena.{sideOf}
 use Rattle.solver.proofs.Plans.{winner-chases, winner-flees, hunted}
@@ -13,19 +12,19 @@ winner-row-spec =
     tie.close
     (tie.spec
     (λ c κs. search needs)
-    (λ c κs. c .before .before .before .before .before .pre .0 .accepted)
+    (λ c κs. c .before .before .before .before .pre .0 .accepted)
     (λ c s l.
     let at-side = c .before .before in
-    let start = at-side .before .before .before .before in
+    let start = at-side .before .before .before in
     let ok = start .pre .0 .accepted in
-    winner-chases (start .args .round .game) ok (start .args .winner) (start .pre .1) s l _ _ (start .pre .0 .lower-is)
+    winner-chases (start .args .game) ok (start .args .winner) (start .pre .1) s l _ _ (start .pre .0 .lower-is)
     (ap sideOf (sym (c .before .if1 .taken)) ∙ at-side .hunting-side .ensures .0)
     (c .advice-row .ensures .cell s (omega (arith, ok .few-states))))
-    (λ c κs. c .before .before .before .before .before .pre .0 .accepted)
+    (λ c κs. c .before .before .before .before .pre .0 .accepted)
     (λ c s l.
     let at-side = c .before .before in
-    let start = at-side .before .before .before .before in
+    let start = at-side .before .before .before in
     let ok = start .pre .0 .accepted in
-    winner-flees (start .args .round .game) ok (start .args .winner) (start .pre .1) s l _ _ (start .pre .0 .upper-is)
-    (hunted (start .args .round .game) (at-side .hunting-side .result) (start .args .winner) (at-side .hunting-side .ensures .0) (at-side .hunting-side .ensures .1) (start .pre .1) (c .before .if1 .left))
+    winner-flees (start .args .game) ok (start .args .winner) (start .pre .1) s l _ _ (start .pre .0 .upper-is)
+    (hunted (start .args .game) (at-side .hunting-side .result) (start .args .winner) (at-side .hunting-side .ensures .0) (at-side .hunting-side .ensures .1) (start .pre .1) (c .before .if1 .left))
     (c .advice-row2 .ensures .cell s (omega (arith, ok .few-states)))))

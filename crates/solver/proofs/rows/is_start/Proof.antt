@@ -1,6 +1,5 @@
 -- `is_start` meets its contract.
-use mathlib.Core.Path.{sym, _∙_}
-use Rattle.arena.proofs.Choices.{choices, and-stop, and-pass}
+use Rattle.arena.proofs.Choices.{choices}
 use Rattle.solver.proofs.rows.is_start.Statement.{statement}
 use Rattle.solver.proofs.rows.is_start.Tie as tie
 

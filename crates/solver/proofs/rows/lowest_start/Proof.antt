@@ -7,16 +7,16 @@ use lib.ListN.{getD}
 use lib.Dec.{leb}
 use Rattle.arena.specs.Sets.{some}
 use Rattle.arena.proofs.Least.{least-found, least-done}
-use Rattle.game.specs.Game.{initials}
+use Rattle.game.specs.Game.{marked}
 use Rattle.game.proofs.Small.{sweep}
 use Rattle.solver.proofs.rows.lowest_start.Statement.{statement}
 use Rattle.solver.proofs.rows.lowest_start.Tie as tie
 
 abbrev Inv-loop : tie.InvT-loop
-Inv-loop wanted game marks n s₀ s = (s ≤ n) × (some s (λ t. initials game t && leb wanted (getD marks t 0)) ≡ false)
+Inv-loop n wanted starts marks s₀ s = (s ≤ n) × (some s (λ t. marked 1 (getD starts t 0) && leb wanted (getD marks t 0)) ≡ false)
 
 abbrev μ-loop : tie.MeasureT-loop
-μ-loop wanted game marks n s₀ s = n - s
+μ-loop n wanted starts marks s₀ s = n - s
 
 pub lowest-start-spec : {M : Type 1} → statement M
 lowest-start-spec =
@@ -28,7 +28,7 @@ lowest-start-spec =
     (λ c. search sweep)
     (λ c κs. search sweep)
     (λ c. search sweep)
-    (λ c. least-found _ _ _ (omega arith) (c .before .before .before .before .loop .inv .1) (sym (c .before .is-start .ensures) ∙ c .if1 .taken))
+    (λ c. least-found _ _ _ (omega arith) (c .before .before .before .loop .inv .1) (sym (c .before .is-start .ensures) ∙ c .if1 .taken))
     (λ c. search sweep)
     (λ c. search sweep)
     (λ c. search sweep)

@@ -2,7 +2,7 @@
 use native.Mathlib.Omega.{arith}
 use mathlib.Core.Path.{_≡_}
 use Prim.Native.Nat.{_-_, _≤_}
-use lib.ListN.{length, getD}
+use lib.ListN.{getD}
 use Rattle.game.specs.Limits.{maxStates}
 use Rattle.game.specs.Rows.{fill, blank, zeros}
 use Rattle.game.proofs.Small.{sweep}
@@ -12,11 +12,11 @@ use Rattle.solver.proofs.rows.mark_row.Statement.{statement}
 use Rattle.solver.proofs.rows.mark_row.Tie as tie
 
 abbrev Inv-loop : tie.InvT-loop
-Inv-loop lower upper n objective marks₀ s₀ marks s =
+Inv-loop n objective lower upper marks₀ s₀ marks s =
     (s ≤ n) × (marks ≡ fill s (λ t. markNo objective (getD lower t 0) (getD upper t 0)) (zeros maxStates))
 
 abbrev μ-loop : tie.MeasureT-loop
-μ-loop lower upper n objective marks₀ s₀ marks s = n - s
+μ-loop n objective lower upper marks₀ s₀ marks s = n - s
 
 loop-holds : tie.Need-loop-holds Inv-loop μ-loop
 unfolding blank
