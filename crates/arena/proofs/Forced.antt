@@ -9,7 +9,7 @@ use Rattle.arena.specs.Sets.{Set, compl, imp, some, every}
 use Rattle.arena.specs.Game.{Side, one, two, other, same, Game, mine, Live, forced, flip}
 use Rattle.arena.specs.Passes.{grow, rank, nearer}
 use Rattle.arena.proofs.Tests.{decT, cond-cases, cond-yes, cond-no, or-cases, imp-not, and-not, not-not}
-use Rattle.arena.proofs.Sets.{Sub, compl-compl, some-intro, some-elim, every-elim, not-some, not-every, meets-in, meets-out, within-in, within-out, count-pos}
+use Rattle.arena.proofs.Sets.{Sub, compl-compl, some-intro, not-some, not-every, meets-in, meets-out, within-in, within-out, count-pos}
 use Rattle.arena.proofs.Passes.{Mono, grow-rest, rank-le}
 
 -- ## Sides and turns
@@ -50,10 +50,6 @@ flip-forced g i = fun-ext (λ X. fun-ext (λ s. rw (flip-mine g i s)))
 pub flip-live : (g : Game) → Live g → Live (flip g)
 unfolding flip
 flip-live g live = live
-
--- a game in which a loop found a move of every state has a move of each
-pub live-of : (g : Game) → T (every (g .size) (λ s. some (g .size) (g .move s))) → Live g
-live-of g h s l = some-elim (g .size) (g .move s) (every-elim (g .size) (λ s. some (g .size) (g .move s)) h s l)
 
 -- ## One forced step
 

@@ -1,6 +1,6 @@
 -- Laws of winning by numbers of moves: it is growing and dropping by passes, and the two numbers are opposite.
 use Prim.Native.Nat.{ℕ, zero, suc, _<_, zero-le}
-use mathlib.Core.Path.{_≡_, sym, ap, fun-ext}
+use mathlib.Core.Path.{_≡_, sym, fun-ext}
 use mathlib.Core.Bool.{not}
 use mathlib.Core.Logic.{inl, inr, _↔_}
 use native.Mathlib.Omega.{arith}
@@ -8,10 +8,10 @@ use lib.Dec.{T, T-not, not-T}
 use Rattle.arena.specs.Sets.{Set, compl}
 use Rattle.arena.specs.Game.{Side, other, Game, forced}
 use Rattle.arena.specs.Win.{Goal, toReach, toStay, reachIn, stayFor, ByMoves}
-use Rattle.arena.specs.Passes.{grow, shrink}
-use Rattle.arena.proofs.Tests.{T-ext, or-l, or-r, or-cases, not-not, nor}
+use Rattle.arena.specs.Passes.{grow}
+use Rattle.arena.proofs.Tests.{or-l, or-r, or-cases, not-not, nor}
 use Rattle.arena.proofs.Sets.{Sub}
-use Rattle.arena.proofs.Passes.{grow-le, grow-rest, shrink-grow}
+use Rattle.arena.proofs.Passes.{grow-le, grow-rest}
 use Rattle.arena.proofs.Forced.{forced-mono, forced-dual}
 use Rattle.arena.proofs.Win.{reach, hold, region}
 
@@ -44,10 +44,6 @@ module _ (g : Game) (i : Side) (A : Set) where
         ],
       )
 
-  -- the target after k passes of forced steps is what wins reach in k moves
-  pub grow-is-reachIn : (k s : ℕ) → s < g .size → grow (forced g i) A k s ≡ reachIn g i A k s
-  grow-is-reachIn k s l = T-ext (grow (forced g i) A k s) (reachIn g i A k s) (both-ways k .0 s l) (both-ways k .1 s l)
-
   -- the states that win reach in some number of moves are those of reach
   pub reach-moves : (s : ℕ) → s < g .size → ((k : ℕ) × T (reachIn g i A k s)) ↔ T (reach g i A s)
   unfolding reach
@@ -65,12 +61,6 @@ module _ (g : Game) (i : Side) (A : Set) where
       fun-ext (λ s. rw (stayFor-other k) (rw (forced-dual g i R s) (rw (not-not (A s)) at (nor (not (A s)) (forced g (other i) R s)))))
 
 module _ (g : Game) (i : Side) (A : Set) where
-  -- the target after k removal passes is what side i can keep for k moves
-  pub shrink-is-stayFor : (k s : ℕ) → s < g .size → shrink (forced g i) A k s ≡ stayFor g i A k s
-  shrink-is-stayFor k s l =
-      rw (stayFor-other g i A k, shrink-grow (forced g i) (forced g (other i)) (forced-dual g i) A k)
-      (ap not (grow-is-reachIn g (other i) (compl A) k s l))
-
   -- the states where side i can keep the play in A for every number of moves are those of hold
   pub hold-moves : (s : ℕ) → s < g .size → ((k : ℕ) → T (stayFor g i A k s)) ↔ T (hold g i A s)
   unfolding hold

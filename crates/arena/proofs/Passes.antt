@@ -9,7 +9,7 @@ use native.Mathlib.Omega.{arith}
 use lib.Dec.{T, ltb→lt}
 use Rattle.arena.specs.Sets.{Set, compl, count}
 use Rattle.arena.specs.Passes.{grow, shrink, rank, nearer}
-use Rattle.arena.proofs.Tests.{T-ext, or-l, or-r, or-cases, contra, not-not, nor}
+use Rattle.arena.proofs.Tests.{T-ext, or-l, or-r, or-cases, nor}
 use Rattle.arena.proofs.Sets.{Sub, compl-compl, count-le, count-grows, least-le, least-hit}
 
 -- a monotone operator: from a larger set it makes a larger one
@@ -88,22 +88,6 @@ unfolding shrink grow
 shrink-grow F G d A zero = sym (compl-compl A)
 shrink-grow F G d A (suc k) =
     fun-ext (λ s. rw (shrink-grow F G d A k) (rw (d (grow G (compl A) k) s) (nor (grow G (compl A) k s) (G (grow G (compl A) k) s))))
-
--- the operator that does outside a set what F does inside
-abbrev pub dual : (Set → Set) → Set → Set
-dual F X = compl (F (compl X))
-
--- after as many passes as there are members of A nothing drops out
-pub shrink-stable : (n : ℕ) (F : Set → Set) → Mono n F → (A : Set) (k : ℕ) → n ≤ count n (compl A) + k → Sub n (shrink F A k) (shrink F A (suc k))
-shrink-stable n F mono A k b s l =
-    rw (as-grow k, as-grow (suc k))
-    (contra (grow (dual F) (compl A) (suc k) s) (grow (dual F) (compl A) k s) (grow-stable n (dual F) dual-mono (compl A) k b s l))
-  where
-    as-grow : (k : ℕ) → shrink F A k ≡ compl (grow (dual F) (compl A) k)
-    as-grow k = shrink-grow F (dual F) (λ X s. sym (not-not (F (compl X) s))) A k
-
-    dual-mono : Mono n (dual F)
-    dual-mono X Y h s l = contra (F (compl Y) s) (F (compl X) s) (mono (compl Y) (compl X) (λ t m. contra (X t) (Y t) (h t m)) s l)
 
 -- ## Ranks
 

@@ -10,10 +10,10 @@ use Rattle.arena.specs.Sets.{Set, compl}
 use Rattle.arena.specs.Game.{Side, other, Game, Live, forced, flip}
 use Rattle.arena.specs.Play.{Strategy, Play, Follows, outcome}
 use Rattle.arena.specs.Win.{Objective, Reach, Stay, Goal, toReach, toStay, swapGoal, objective, Winning, Spoils}
-use Rattle.arena.specs.Passes.{grow, shrink, nearer}
+use Rattle.arena.specs.Passes.{grow, nearer}
 use Rattle.arena.proofs.Tests.{decT, or-r, contra, not-not}
 use Rattle.arena.proofs.Sets.{Sub, compl-compl}
-use Rattle.arena.proofs.Passes.{grow-le, grow-rest, shrink-grow, descent}
+use Rattle.arena.proofs.Passes.{grow-le, grow-rest, descent}
 use Rattle.arena.proofs.Forced.{other-other, flip-forced, forced-mono, forced-dual, rank-step}
 use Rattle.arena.proofs.Plays.{outcome-play, outcome-mine, outcome-theirs, memoryless, force}
 
@@ -44,11 +44,6 @@ module _ (g : Game) (i : Side) (A : Set) where
   reach-closed s l x =
       grow-rest (g .size) (forced g i) (forced-mono g i) A (g .size) (omega arith) (suc (g .size)) s l
       (or-r (reach g i A s) (forced g i (reach g i A) s) x)
-
-  -- as many removal passes as there are states leave hold
-  pub stay-hold : shrink (forced g i) A (g .size) ≡ hold g i A
-  unfolding hold reach
-  stay-hold = shrink-grow (forced g i) (forced g (other i)) (forced-dual g i) A (g .size)
 
   -- the opponent holds the complement exactly outside reach
   pub hold-other : (s : ℕ) → hold g (other i) (compl A) s ≡ not (reach g i A s)
@@ -164,12 +159,3 @@ module _ (g : Game) (live : Live g) (i : Side) (o : Goal) (A : Set) (s : ℕ) (l
     (λ w. elim (decT (region g i o A s)) [ inl h ↦ h | inr n ↦ absurd (not-both g i (objective o A) s w (outside-spoils n)) ]),
     region-wins,
   )
-
-module _ (g : Game) (live : Live g) (i : Side) (A : Set) (s : ℕ) (l : s < g .size) where
-  -- side i wins reach exactly from the states of reach
-  pub winning-reach : Winning g i (Reach A) s ↔ T (reach g i A s)
-  winning-reach = winning-region g live i toReach A s l
-
-  -- side i wins stay exactly from the states of hold
-  pub winning-stay : Winning g i (Stay A) s ↔ T (hold g i A s)
-  winning-stay = winning-region g live i toStay A s l

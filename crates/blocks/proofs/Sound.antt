@@ -1,6 +1,6 @@
 -- What one round's sets mean, whatever the blocks: side 1 wins from sure states, and its opponent spoils from never states.
 use Prim.Native.Nat.{ℕ, _<_}
-use lib.Dec.{T, T-not}
+use lib.Dec.{T}
 use Rattle.arena.specs.Sets.{Set, compl}
 use Rattle.arena.specs.Game.{one, two, Game, Live}
 use Rattle.arena.specs.Win.{Goal, toReach, toStay, objective, Winning, Spoils}

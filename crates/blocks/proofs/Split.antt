@@ -11,7 +11,7 @@ use Rattle.arena.specs.Sets.{Set, bit, count, least}
 use Rattle.arena.proofs.Tests.{decT, is-true, and-intro, and-l, and-r}
 use Rattle.arena.proofs.Sets.{lt-suc-cases, least-in, least-le, count-le}
 use Rattle.blocks.specs.Blocks.{isBlock, blockCount, split}
-use Rattle.blocks.proofs.Blocks.{Named, Whole}
+use Rattle.blocks.proofs.Blocks.{Named}
 
 -- the members of block b that lie in C alike with s
 abbrev pub part : (ℕ → ℕ) → ℕ → Set → ℕ → Set
@@ -67,10 +67,6 @@ module _ (n : ℕ) (block : ℕ → ℕ) (b : ℕ) (C : Set) where
     -- states of one new block were in one old block
     pub split-finer : (s t : ℕ) → s < n → t < n → split n block b C s ≡ split n block b C t → block s ≡ block t
     split-finer s t ls lt e = sym (split-mate s ls) ∙ ap block e ∙ split-mate t lt
-
-    -- a union of whole blocks is one of whole new blocks
-    pub split-whole : (X : Set) → Whole n block X → Whole n (split n block b C) X
-    split-whole X w s t ls lt e = w s t ls lt (split-finer s t ls lt e)
 
     -- the new blocks are named by their lowest members
     pub split-named : Named n (split n block b C)

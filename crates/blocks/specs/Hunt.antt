@@ -1,7 +1,6 @@
 -- Both objectives seen from the side that hunts: one view for reach and for stay, by which the code works. Nothing that
 -- is promised is stated in these terms; proofs/ has the laws that tie them to 01's words.
 use Prim.Native.Nat.{ℕ}
-use mathlib.Core.Bool.{not, _&&_}
 use Rattle.arena.specs.Sets.{Set, compl}
 use Rattle.arena.specs.Game.{Side, one, two, Game, forced}
 use Rattle.arena.specs.Win.{Goal, toReach, toStay}

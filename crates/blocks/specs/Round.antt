@@ -2,7 +2,7 @@
 use Prim.Native.Nat.{ℕ, suc}
 use mathlib.Core.Bool.{not, _&&_}
 use Rattle.arena.specs.Sets.{Set, compl, least}
-use Rattle.arena.specs.Game.{Side, one, two, Game, forced}
+use Rattle.arena.specs.Game.{one, two, Game, forced}
 use Rattle.arena.specs.Win.{Goal, toReach, toStay}
 use Rattle.arena.specs.Passes.{grow, shrink}
 use Rattle.blocks.specs.Blocks.{inside, meets, isBlock}

@@ -1,6 +1,6 @@
 -- The table of proved cases: one statement, from the bytes of each file to the verdict and all three rows, by computation.
 use mathlib.Core.Path.{_≡_, refl}
-use mathlib.Core.List.{List, map}
+use mathlib.Core.List.{map}
 use Rattle.arena.specs.Sets.{some, every, count, least}
 use Rattle.arena.specs.Game.{forced}
 use Rattle.arena.specs.Passes.{grow, shrink}

@@ -9,7 +9,7 @@ use lib.Dec.{T, eqb, ltb}
 use borrow.Author.Tests.{eq-eqb, eqb-true, ltb-true}
 use Rattle.arena.specs.Sets.{Set}
 use Rattle.arena.proofs.Loops.{some-found, some-one, every-one}
-use Rattle.game.specs.Game.{knownObjective, knownTurn, blockAt, fromAt, toAt, initials, targets, hasMove}
+use Rattle.game.specs.Game.{fromAt, toAt, initials, targets, hasMove}
 use Rattle.game.specs.Accepted.{Accepted, Precise, Ascending}
 use Rattle.file.specs.Layout.{states, moves, block, from, to}
 use Rattle.file.specs.Refusals.{pairBelow, ascends, initial, target, moved, mixed, refusal}

@@ -7,7 +7,6 @@ use Rattle.game.specs.declared.StateNo.{StateNo}
 use Rattle.game.specs.declared.BlockNo.{BlockNo}
 use Rattle.game.specs.declared.Game.{Game}
 use Rattle.file.specs.Layout.{states, moves, objective}
-use Rattle.decoding.specs.declared.Answer.{Answer}
 use Rattle.decoding.specs.declared.Answer.the-variants.{Accepted, Refused}
 use Rattle.decoding.specs.declared.Decoded.{Decoded}
 use Rattle.decoding.specs.Decode.{turnRow, marksRow, blockRow, fromRow, toRow, gameOf, answered}

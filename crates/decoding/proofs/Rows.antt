@@ -1,5 +1,5 @@
 -- What the rows of a decoded game hold at each state and at each move.
-use mathlib.Core.Path.{_≡_, refl, ap}
+use mathlib.Core.Path.{_≡_, ap}
 use mathlib.Core.List.{List}
 use Prim.Native.Nat.{ℕ, _<_}
 use Rattle.game.specs.Game.{stateNo, blockNo, marked, turnAt, marksAt, blockAt, fromAt, toAt, initials, targets}
@@ -9,14 +9,6 @@ use Rattle.file.specs.Refusals.{initial, target}
 use Rattle.decoding.specs.Decode.{turnRow, marksRow, blockRow, fromRow, toRow, gameOf}
 
 module _ (f : List ℕ) where
-  pub states-is : gameOf f .states ≡ states f
-  unfolding gameOf
-  states-is = refl
-
-  pub moves-is : gameOf f .moves ≡ moves f
-  unfolding gameOf
-  moves-is = refl
-
   pub turn-is : (s : ℕ) → s < states f → turnAt (gameOf f) s ≡ turn f s
   unfolding gameOf turnRow
   turn-is s l = fill-cell (states f) _ _ s 0 l

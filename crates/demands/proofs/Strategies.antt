@@ -2,7 +2,6 @@
 use Prim.Native.Nat.{ℕ, _<_}
 use mathlib.Core.Path.{_≡_, sym, _∙_}
 use mathlib.Core.Bool.{cond}
-use mathlib.Core.List.{List}
 use lib.Dec.{T, eqb}
 use borrow.Author.Tests.{eq-eqb, ne-eqb}
 use Rattle.arena.specs.Sets.{Set, compl, least}

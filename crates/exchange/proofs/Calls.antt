@@ -4,13 +4,12 @@ use mathlib.Core.List.{List}
 use Prim.Native.Nat.{ℕ, zero, suc, _≤_}
 use lib.ListN.{length, take, drop}
 use lib.Seq.{take-all}
-use native.Mathlib.Nat.{le-refl}
 use native.Mathlib.Omega.{arith}
 use Rattle.game.proofs.Rows.{fill-take, fill-drop}
 use Rattle.file.specs.Refusals.{refusal}
 use Rattle.exchange.specs.declared.Exchanged.{Exchanged}
 use Rattle.exchange.specs.declared.Exchanged.the-variants.{Written, Refused}
-use Rattle.exchange.specs.Exchange.{refusalNumber, exchangedBytes, exchangedFile, exchangeFault, answered, kept, exchangeAnswer, exchangeOutput}
+use Rattle.exchange.specs.Exchange.{refusalNumber, exchangedBytes, exchangedFile, exchangeFault, answered, exchangeAnswer, exchangeOutput}
 use Rattle.exchange.proofs.Answers.{fault-none}
 use Rattle.exchange.proofs.Bytes.{same-length}
 use Rattle.exchange.proofs.Accepted.{exchanged-accepted}

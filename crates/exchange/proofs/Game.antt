@@ -1,25 +1,19 @@
 -- The game of the exchanged file is the exchanged game.
 use mathlib.Core.Path.{_≡_, refl, sym, ap, _∙_}
-use mathlib.Core.Bool.{Bool, not}
+use mathlib.Core.Bool.{not}
 use mathlib.Core.List.{List}
-use Prim.Native.Nat.{ℕ, zero, suc, _≤_, _<_}
-use lib.ListN.{length}
+use Prim.Native.Nat.{ℕ, _<_}
 use Rattle.game.specs.Limits.{maxStates, maxMoves}
 use Rattle.game.specs.Rows.{fill, blank, zeros}
 use Rattle.game.specs.Game.{stateNo, blockNo, turnAt, marksAt, initials, targets}
-use Rattle.game.specs.declared.StateNo.{StateNo}
-use Rattle.game.specs.declared.BlockNo.{BlockNo}
-use Rattle.game.specs.declared.Game.{Game}
 use Rattle.game.proofs.Rows.{fill-cong, fill-again}
-use Rattle.file.specs.Layout.{states, moves, turn, marks, block, from, to}
+use Rattle.file.specs.Layout.{states, turn, marks}
 use Rattle.file.specs.Refusals.{refusal}
 use Rattle.file.specs.Sound.{Sound}
 use Rattle.file.proofs.Sound.{accepted-sound}
 use Rattle.decoding.specs.Decode.{turnRow, marksRow, blockRow, fromRow, toRow, gameOf}
 use Rattle.decoding.proofs.Rows.{turn-is, marks-is, initial-is, target-is}
-use Rattle.exchange.specs.declared.Exchanged.{Exchanged}
-use Rattle.exchange.specs.declared.Exchanged.the-variants.{Written, Refused}
-use Rattle.exchange.specs.Exchange.{otherTurn, otherObjective, otherMarks, exchangedGame, exchangedBytes, exchangedFile, exchangeFault, answered, kept, exchangeAnswer, exchangeOutput}
+use Rattle.exchange.specs.Exchange.{otherTurn, otherMarks, exchangedGame, exchangedFile}
 use Rattle.exchange.proofs.Bytes.{same-states, same-moves, same-block, same-from, same-to}
 use Rattle.exchange.proofs.Fields.{turn-changed, marks-changed, objective-other, initial-kept, target-changed}
 

@@ -1,6 +1,6 @@
 -- Laws of faults and tests, in the form that `search` can use: a tested value x may be what a call gave, x ≡ a.
 use mathlib.Core.Path.{_≡_, refl, sym, _∙_}
-use mathlib.Core.Bool.{Bool, true, false, not, _&&_, true≢false}
+use mathlib.Core.Bool.{Bool, true, false, not, true≢false}
 use mathlib.Core.List.{List}
 use Prim.Native.Nat.{ℕ, zero, suc, _+_, _-_, _*_, _≤_, _<_}
 use native.Mathlib.Nat.{zero-add, suc-add, not-suc-le-zero, eq-or-lt-of-le, le-of-suc-le-suc}

@@ -7,7 +7,6 @@ use lib.ListN.{length}
 use Rattle.file.specs.Refusals.{refusal}
 use Rattle.file.proofs.Laws.{then-zero}
 use Rattle.file.proofs.Sound.{exact-length}
-use Rattle.exchange.specs.declared.Exchanged.{Exchanged}
 use Rattle.exchange.specs.declared.Exchanged.the-variants.{Written}
 use Rattle.exchange.specs.Exchange.{answered, exchangeFault, exchangeAnswer}
 
