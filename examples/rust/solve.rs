@@ -63,9 +63,12 @@ fn solve(file: &[u8], rows: &mut Rows, allowance: u16) -> Verdict {
 }
 
 fn main() -> ExitCode {
-    let Some(file) = std::env::args().nth(1).and_then(|path| std::fs::read(path).ok()) else {
-        eprintln!("usage: solve FILE");
-        return ExitCode::from(2);
+    let file = match std::env::args().nth(1).map(std::fs::read) {
+        Some(Ok(file)) => file,
+        _ => {
+            eprintln!("usage: solve FILE");
+            return ExitCode::from(2);
+        }
     };
     let row = [0; MAX_STATES];
     let mut rows = Rows { marks: row, blocks: row, moves: row };

@@ -47,7 +47,7 @@ pub fn read(file: &[u8]) -> Result<Game, u16> {
     for _ in 0..moves {
         let body = reader.body(6, 3)?;
         let pair = (number(&body[0..2]), number(&body[2..4]));
-        if pair.0 >= states || pair.1 >= states || before.is_some_and(|last| pair <= last) {
+        if pair.0 >= states || pair.1 >= states || before >= Some(pair) {
             return Err(6);
         }
         game.next[pair.0].push(pair.1);
