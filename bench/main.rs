@@ -2,6 +2,7 @@
 //! `bench stack` finds how much stack one call takes, `bench repeat CASE TIMES` makes calls of the library for a profiler.
 
 mod attractor;
+mod black_box;
 mod clock;
 #[path = "../tests/outside/damage.rs"]
 #[allow(dead_code)]

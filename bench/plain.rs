@@ -13,7 +13,7 @@ pub enum Verdict {
     Refused(u8),
 }
 
-/// What the caller may do along the way: count passes and rounds, or spend time on each.
+/// What the caller may do along the way: count passes and rounds.
 pub trait Watch {
     fn pass(&mut self) {}
     fn round(&mut self) {}

@@ -1,10 +1,10 @@
 //! How much stack one call takes: the stack below is painted, the call is made, and the lowest place that it changed is
 //! sought. It reads memory that no variable holds, which is sound only as a measurement.
 
+use crate::black_box::black_box;
 use crate::families;
 use crate::library;
 use crate::tables::{Rows, ALLOWANCE};
-use std::hint::black_box;
 
 const PAINT: u8 = 0xa5;
 const PAINTED: usize = 1 << 20;

@@ -1,11 +1,11 @@
 //! Checks that the contenders agree, times them in turns, and prints the tables.
 
+use crate::black_box::black_box;
 use crate::families::{self, Case};
 use crate::plain::{Verdict, MAX_STATES};
-use crate::watches::{Copies, Count};
 use crate::random::Random;
-use crate::{attractor, clock, damage, library, plain, shapes, watches};
-use std::hint::black_box;
+use crate::watches::Count;
+use crate::{attractor, clock, damage, library, plain, shapes};
 
 pub const ALLOWANCE: u16 = 65535;
 
@@ -18,7 +18,8 @@ impl Rows {
     }
 
     pub fn lend(&mut self) -> [&mut [u16]; 3] {
-        self.0.each_mut().map(|row| &mut row[..])
+        let [marks, blocks, moves] = &mut self.0;
+        [marks, blocks, moves]
     }
 }
 
@@ -61,45 +62,38 @@ struct Times {
     verified: f64,
     plain: f64,
     attractor: f64,
-    with_copies: f64,
 }
 
 fn time(file: &[u8]) -> Times {
-    let (mut rows, mut copies) = (Rows::new(), Copies::new());
+    let mut rows = Rows::new();
     let rows = std::cell::RefCell::new(&mut rows);
     let times = clock::medians(&mut [
         &mut || _ = black_box(library::solve(black_box(file), ALLOWANCE, rows.borrow_mut().lend())),
         &mut || _ = black_box(plain::solve(black_box(file), ALLOWANCE, rows.borrow_mut().lend())),
         &mut || _ = black_box(plain::decode(black_box(file)).map(|game| attractor::is_yes(&game))),
-        &mut || {
-            copies.call();
-            _ = black_box(plain::solve_watched(black_box(file), ALLOWANCE, rows.borrow_mut().lend(), &mut copies))
-        },
     ]);
-    Times { verified: times[0], plain: times[1], attractor: times[2], with_copies: times[3] }
+    Times { verified: times[0], plain: times[1], attractor: times[2] }
 }
 
 pub fn print() {
     check_drawn(2000, 2000);
     println!("Solving, nanoseconds for one call:\n");
-    println!("| family | game | verdict | splits | passes | verified | plain | attractor | verified / plain | plain + copies | verified / that |");
-    println!("|---|---|---|--:|--:|--:|--:|--:|--:|--:|--:|");
+    println!("| family | game | verdict | splits | passes | verified | plain | attractor | verified / plain |");
+    println!("|---|---|---|--:|--:|--:|--:|--:|--:|");
     let lines: Vec<Line> = families::solving().iter().map(solving_line).collect();
     println!();
     let decoding = decoding_table();
     let exchanging = exchange_table();
     println!("Ratios:\n");
-    println!("| part | verified / plain, geometric mean | worst | verified / (plain + copies), geometric mean | worst |");
-    println!("|---|--:|--:|--:|--:|");
+    println!("| part | verified / plain, geometric mean | worst |");
+    println!("|---|--:|--:|");
     for family in ["small", "states", "moves", "splits", "passes", "worst"] {
         solving_summary(family, &lines, |line| line.family == family);
     }
     solving_summary("all but small", &lines, |line| line.family != "small");
     solving_summary("all", &lines, |_| true);
-    println!("| decode | {} | | |", mean_and_worst(&decoding));
-    println!("| exchange | {} | | |", mean_and_worst(&exchanging));
-    let [pass, round, call] = watches::bytes();
-    println!("\nBytes copied: {pass} in each pass, {round} more in each round with its split, {call} more in each call.");
+    println!("| decode | {} |", mean_and_worst(&decoding));
+    println!("| exchange | {} |", mean_and_worst(&exchanging));
 }
 
 fn mean_and_worst(ratios: &[f64]) -> String {
@@ -108,33 +102,31 @@ fn mean_and_worst(ratios: &[f64]) -> String {
 }
 
 fn solving_summary(part: &str, lines: &[Line], belongs: impl Fn(&Line) -> bool) {
-    let ratios = |of: fn(&Line) -> f64| lines.iter().filter(|line| belongs(line)).map(of).collect::<Vec<f64>>();
-    let (to_plain, to_copies) = (ratios(|line| line.to_plain), ratios(|line| line.to_copies));
-    println!("| solving, {part} | {} | {} |", mean_and_worst(&to_plain), mean_and_worst(&to_copies));
+    let ratios: Vec<f64> = lines.iter().filter(|line| belongs(line)).map(|line| line.ratio).collect();
+    println!("| solving, {part} | {} |", mean_and_worst(&ratios));
 }
 
-/// A line of the solving table: the verified time as a multiple of the plain one, and of the plain one with copies.
+/// A line of the solving table: the verified time as a multiple of the plain one.
 struct Line {
     family: &'static str,
-    to_plain: f64,
-    to_copies: f64,
+    ratio: f64,
 }
 
 fn solving_line(case: &Case) -> Line {
     let file = case.game.file();
     let (verdict, count) = check(&file, ALLOWANCE);
-    let Times { verified, plain, attractor, with_copies } = time(&file);
+    let Times { verified, plain, attractor } = time(&file);
     let (word, splits) = match verdict {
         Verdict::Yes(_, splits) => ("YES", splits),
         Verdict::No(splits) => ("NO", splits),
         other => panic!("{other:?}"),
     };
-    let (to_plain, to_copies) = (verified / plain, verified / with_copies);
+    let ratio = verified / plain;
     println!(
-        "| {} | {} | {word} | {splits} | {} | {verified:.0} | {plain:.0} | {attractor:.0} | {to_plain:.2} | {with_copies:.0} | {to_copies:.2} |",
+        "| {} | {} | {word} | {splits} | {} | {verified:.0} | {plain:.0} | {attractor:.0} | {ratio:.2} |",
         case.family, case.name, count.passes,
     );
-    Line { family: case.family, to_plain, to_copies }
+    Line { family: case.family, ratio }
 }
 
 /// The library has no call for decoding alone: the largest file with the least to solve, and one that the last test
