@@ -25,18 +25,18 @@ use Rattle.rounds.proofs.Stamp.{passes-set}
 use Rattle.solver.specs.Run.{sureStates, possibleStates, word}
 use Rattle.solver.specs.Plan.{mark}
 use Rattle.solver.specs.Solve.{namedStart}
-use Rattle.solver.specs.Work.{markNo, preyStates, lowerStates, upperStates, lowerRow, upperRow, markRow, lowestStart, decisionBy, decisionOf}
+use Rattle.solver.specs.Work.{markNo, preyStates, lowerStates, upperStates, passRow, lowerRow, upperRow, markRow, lowestStart, decisionBy, decisionOf}
 use Rattle.solver.specs.declared.Decision.the-variants.{Yes, No, Open}
 
 -- ## The rows of passes say the hunter's sets
 
 module _ (g : Game) where
   pub in-lower : (s : ℕ) → s < g .states → isIn (lowerRow g) s ≡ lowerStates g s
-  unfolding lowerRow lower arenaOf
+  unfolding passRow lower arenaOf
   in-lower s l = passes-set (g .states) _ (preyStates g) (zeros maxStates) (g .states) s l
 
   pub in-upper : (s : ℕ) → s < g .states → isIn (upperRow g) s ≡ upperStates g s
-  unfolding upperRow upper arenaOf
+  unfolding passRow upper arenaOf
   in-upper s l = passes-set (g .states) _ (preyStates g) (zeros maxStates) (g .states) s l
 
   -- what is surely brought about may be

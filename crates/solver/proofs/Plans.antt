@@ -32,7 +32,7 @@ use Rattle.blocks.proofs.Hunt.{sure-reach, possible-reach, sure-stay, never-sta
 use Rattle.rounds.proofs.Stamp.{stamp-rank}
 use Rattle.solver.specs.Run.{Word, YES, NO, OPEN, word}
 use Rattle.solver.specs.Plan.{noMove, successors, advice, rule, planned}
-use Rattle.solver.specs.Work.{goodMove, lowestGood, huntingSide, preyStates, lowerStates, upperStates, lowerRow, upperRow, chaseRank, chaseRule, fleeRule, winnerRule, decisionOf}
+use Rattle.solver.specs.Work.{goodMove, lowestGood, huntingSide, preyStates, lowerStates, upperStates, passRow, lowerRow, upperRow, chaseRank, chaseRule, fleeRule, winnerRule, decisionOf}
 use Rattle.solver.specs.declared.Decision.{Decision}
 use Rattle.solver.specs.declared.Decision.the-variants.{Yes, No, Open}
 use Rattle.solver.proofs.Advice.{walked}
@@ -127,7 +127,7 @@ module _ (g : Game) where
 
   -- the pass that stands in the lower row
   lower-pass : (t : ℕ) → t < g .states → getD (lowerRow g) t 0 ≡ cond (lowerStates g t) (suc (chaseRank g (goalOf (g .objective)) t)) 0
-  unfolding lowerRow lower arenaOf
+  unfolding passRow lower arenaOf
   lower-pass t l = fill-at (g .states) _ (zeros maxStates) t l ∙ stamp-rank (insideStep (arenaOf g) (blockAt g) (huntingSide g)) (preyStates g) (g .states) (g .states) t (le-refl (g .states))
 
   -- a state of the lower set has a rank of at most the number of states, and no other has

@@ -1,6 +1,6 @@
 -- The round as the code works it out: its rows, and the split of its border block.
 use mathlib.Core.Path.{_≡_, refl, sym, ap, _∙_}
-use mathlib.Core.Bool.{Bool, true, false, not, _&&_}
+use mathlib.Core.Bool.{Bool, true, false, not, _&&_, cond}
 use mathlib.Core.List.{List}
 use Prim.Native.Nat.{ℕ, _<_}
 use native.Mathlib.Omega.{arith}
@@ -34,27 +34,21 @@ use Rattle.rounds.proofs.Stamp.{passes-from}
 use Rattle.rounds.proofs.Joining.{joining-mono}
 use Rattle.rounds.proofs.RowSets.{bordering-sets, ones-row, split-cong}
 use Rattle.solver.specs.Run.{knownStates, borderOf, OPEN, word, splitGame}
-use Rattle.solver.specs.Work.{markNo, huntingSide, preyStates, lowerStates, upperStates, lowerRow, upperRow, Worked, OpenRound, decisionBy, decisionOf}
+use Rattle.solver.specs.Work.{markNo, huntingSide, preyStates, lowerStates, upperStates, passRow, lowerRow, upperRow, Worked, OpenRound, decisionBy, decisionOf}
 use Rattle.solver.proofs.Rounds.{open-border-block}
 use Rattle.solver.proofs.Marks.{in-lower, in-upper, marks-are, decision-is}
 
 -- ## The rows of passes
 
-module _ (g : Game) (side : ℕ) (hunts : sideOf side ≡ huntingSide g) (first row : List ℕ)
-    (prey-is : first ≡ fill (g .states) (λ s. bit (preyStates g s)) (zeros maxStates)) where
-  -- whole blocks inside
-  pub lower-worked : row ≡ fill (g .states) (stampFrom (joining g side true) (passAt first) (g .states)) first → row ≡ lowerRow g
-  unfolding lowerRow joining
-  lower-worked e =
-      e ∙ passes-from (g .states) (joining g side true) (joining-mono g side true) (preyStates g) first (zeros maxStates) prey-is (g .states)
-      ∙ ap (λ (i : Side). fill (g .states) (stamp (insideStep (arenaOf g) (blockAt g) i) (preyStates g) (g .states)) (zeros maxStates)) hunts
-
-  -- blocks that meet
-  pub upper-worked : row ≡ fill (g .states) (stampFrom (joining g side false) (passAt first) (g .states)) first → row ≡ upperRow g
-  unfolding upperRow joining
-  upper-worked e =
-      e ∙ passes-from (g .states) (joining g side false) (joining-mono g side false) (preyStates g) first (zeros maxStates) prey-is (g .states)
-      ∙ ap (λ (i : Side). fill (g .states) (stamp (meetsStep (arenaOf g) (blockAt g) i) (preyStates g) (g .states)) (zeros maxStates)) hunts
+-- what `passes` gives, for whole blocks and for blocks that meet
+row-worked : (g : Game) (side : ℕ) → sideOf side ≡ huntingSide g → (first : List ℕ)
+    → first ≡ fill (g .states) (λ s. bit (preyStates g s)) (zeros maxStates)
+    → (whole : Bool) (row : List ℕ) → row ≡ fill (g .states) (stampFrom (joining g side whole) (passAt first) (g .states)) first → row ≡ passRow g whole
+unfolding passRow joining
+row-worked g side hunts first prey-is whole row e =
+    e ∙ passes-from (g .states) (joining g side whole) (joining-mono g side whole) (preyStates g) first (zeros maxStates) prey-is (g .states)
+    ∙ ap (λ (i : Side).
+    fill (g .states) (stamp (λ X. cond whole (insideStep (arenaOf g) (blockAt g) i X) (meetsStep (arenaOf g) (blockAt g) i X)) (preyStates g) (g .states)) (zeros maxStates)) hunts
 
 -- the rows of a round for a game that has this many states, this objective and these marks in its file
 module _ (g : Game) (ok : Accepted g) (n objective : ℕ) (starts : List ℕ) (e : g .states ≡ n) (q : g .objective ≡ objective) (m : g .marks ≡ starts)
@@ -72,8 +66,8 @@ module _ (g : Game) (ok : Accepted g) (n objective : ℕ) (starts : List ℕ) (e
   -- the round is worked out
   round-worked : Worked g (record { lower = low; upper = up; marks = marks })
   round-worked =
-      let lower-is = lower-worked g side hunts-here first low prey-here low-is in
-      let upper-is = upper-worked g side hunts-here first up prey-here up-is in
+      let lower-is = row-worked g side hunts-here first prey-here true low low-is in
+      let upper-is = row-worked g side hunts-here first prey-here false up up-is in
       record { accepted = ok; lower-is = lower-is; upper-is = upper-is; marks-is = marks-are g low up marks lower-is upper-is (rw (e, q) marks-is) }
 
   -- what it decides is what its word says

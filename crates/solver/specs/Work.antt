@@ -63,12 +63,18 @@ lowerStates g = lower (arenaOf g) (blockAt g) (huntingSide g) (preyStates g)
 abbrev pub upperStates : Game → Set
 upperStates g = upper (arenaOf g) (blockAt g) (huntingSide g) (preyStates g)
 
--- the pass in which each state entered the one and the other, 0 where it did not
-unfoldable pub lowerRow : Game → List ℕ
-lowerRow g = fill (g .states) (stamp (insideStep (arenaOf g) (blockAt g) (huntingSide g)) (preyStates g) (g .states)) (zeros maxStates)
+-- the pass in which each state entered the one (by whole blocks) and the other (by blocks that meet), 0 where it did not
+unfoldable pub passRow : Game → Bool → List ℕ
+passRow g whole =
+    fill (g .states)
+    (stamp (λ X. cond whole (insideStep (arenaOf g) (blockAt g) (huntingSide g) X) (meetsStep (arenaOf g) (blockAt g) (huntingSide g) X)) (preyStates g) (g .states))
+    (zeros maxStates)
 
-unfoldable pub upperRow : Game → List ℕ
-upperRow g = fill (g .states) (stamp (meetsStep (arenaOf g) (blockAt g) (huntingSide g)) (preyStates g) (g .states)) (zeros maxStates)
+abbrev pub lowerRow : Game → List ℕ
+lowerRow g = passRow g true
+
+abbrev pub upperRow : Game → List ℕ
+upperRow g = passRow g false
 
 -- the mark of each state
 unfoldable pub markRow : Game → List ℕ
