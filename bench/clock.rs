@@ -39,6 +39,11 @@ pub fn medians(contenders: &mut [&mut dyn FnMut()]) -> Vec<f64> {
     times.into_iter().map(median).collect()
 }
 
+/// The least time of so many calls.
+pub fn least(calls: usize, contender: &mut dyn FnMut()) -> f64 {
+    (0..calls).map(|_| batch(1, contender)).fold(f64::MAX, f64::min)
+}
+
 fn median(mut times: Vec<f64>) -> f64 {
     times.sort_by(f64::total_cmp);
     times[times.len() / 2]

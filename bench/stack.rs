@@ -2,9 +2,10 @@
 //! sought. It reads memory that no variable holds, which is sound only as a measurement.
 
 use crate::black_box::black_box;
-use crate::families;
-use crate::library;
-use crate::tables::{Rows, ALLOWANCE};
+use crate::families::{self, ALL};
+use crate::measure::Rows;
+use crate::plain::MAX_STATES;
+use crate::{library, small};
 
 const PAINT: u8 = 0xa5;
 const PAINTED: usize = 1 << 20;
@@ -27,17 +28,27 @@ fn used_by(call: &mut dyn FnMut()) -> usize {
     top - changed.unwrap_or(top)
 }
 
+/// The files whose solving is measured.
+fn files() -> Vec<(&'static str, Vec<u8>)> {
+    vec![
+        ("P1", small::m().file()),
+        ("no split, largest file", families::largest().file()),
+        ("509 splits, 512 states", families::folded_chain(MAX_STATES, 8).file()),
+        ("side 2 wins after hundreds of splits", families::decided_late().file()),
+    ]
+}
+
 pub fn print() {
     let measure = || {
-        let (small, large) = (families::solving().swap_remove(0).game.file(), families::folded_chain(40, 8).file());
-        let largest = families::largest().file();
-        let (mut rows, mut out) = (Rows::new(), vec![0; largest.len()]);
         println!("| call | bytes of stack |");
         println!("|---|--:|");
-        for (name, file) in [("M", small), ("chain in one block, 40 states", large), ("largest file", largest.clone())] {
-            let bytes = used_by(&mut || _ = library::solve(&file, ALLOWANCE, rows.lend()));
+        let mut rows = Rows::new();
+        for (name, file) in files() {
+            let bytes = used_by(&mut || _ = library::solve(&file, ALL, rows.lend()));
             println!("| `hvoyanur_solve`, {name} | {bytes} |");
         }
+        let largest = families::largest().file();
+        let mut out = vec![0; largest.len()];
         let bytes = used_by(&mut || _ = library::exchange(&largest, &mut out));
         println!("| `hvoyanur_exchange`, largest file | {bytes} |");
     };

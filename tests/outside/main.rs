@@ -3,10 +3,12 @@
 //!     outside short                 10,000 games and 10,000 damaged strings
 //!     outside full                  100,000 games and 1,000,000 damaged strings
 //!     outside count GAMES STRINGS   so many of each
+//!     outside big GAMES             so many games of 512 states, most with hundreds of splits, with four allowances each
 //!     outside replay HEX ALLOWANCE  one byte string
 //!
 //! The first difference is printed with the words that replay it, and the status is 1.
 
+mod big;
 mod checks;
 mod damage;
 mod decoder;
@@ -30,8 +32,9 @@ fn main() -> ExitCode {
         ["short"] => many(10_000, 10_000),
         ["full"] => many(100_000, 1_000_000),
         ["count", games, strings] => many(number(games), number(strings)),
+        ["big", games] => many_big(number(games)),
         ["replay", hex, allowance] => replay(hex, number(allowance) as u16),
-        _ => Err("usage: outside short | full | count GAMES STRINGS | replay HEX ALLOWANCE".to_string()),
+        _ => Err("usage: outside short | full | count GAMES STRINGS | big GAMES | replay HEX ALLOWANCE".to_string()),
     };
     match done {
         Ok(()) => ExitCode::SUCCESS,
@@ -67,6 +70,23 @@ fn many(games: usize, strings: usize) -> Result<(), String> {
         checked(&string, allowance, &mut tally)?;
     }
     println!("damaged strings: {}; {}", tally.refused(), tally.games());
+    Ok(())
+}
+
+/// Checks so many big games, each with no split allowed, with one, with half of what it could need, and with all.
+fn many_big(games: usize) -> Result<(), String> {
+    let mut tally = Tally::default();
+    for number in 0..games {
+        let game = big::game(number);
+        let spare = game.states() - game::count_blocks(&game.block);
+        for allowance in [0, 1, spare / 2, spare] {
+            checked(&game.file(), allowance as u16, &mut tally)?;
+        }
+    }
+    if tally.accepted() != 4 * games as u64 {
+        return Err("a big game was refused".to_string());
+    }
+    println!("big games: {}", tally.games());
     Ok(())
 }
 

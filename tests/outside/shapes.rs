@@ -133,7 +133,7 @@ fn moves(states: usize, random: &mut Random) -> Vec<Vec<usize>> {
     (0..states).map(|s| successors(s, random)).collect()
 }
 
-fn ascending(mut to: Vec<usize>) -> Vec<usize> {
+pub fn ascending(mut to: Vec<usize>) -> Vec<usize> {
     to.sort();
     to.dedup();
     to
@@ -155,7 +155,7 @@ fn blocks(initial: &[bool], target: &[bool], turn: &[u8], random: &mut Random) -
 }
 
 /// States with equal marks and class share a block, named by its lowest member.
-fn grouped(initial: &[bool], target: &[bool], class: &[usize]) -> Vec<usize> {
+pub fn grouped(initial: &[bool], target: &[bool], class: &[usize]) -> Vec<usize> {
     let key = |s: usize| (initial[s], target[s], class[s]);
     (0..class.len()).map(|s| (0..=s).find(|&b| key(b) == key(s)).unwrap()).collect()
 }

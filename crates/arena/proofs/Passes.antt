@@ -80,6 +80,19 @@ grow-sub n F G fg mono A B ab (suc k) s l x =
       | inr y ↦ or-r (grow G B k s) (G (grow G B k) s) (mono (grow F A k) (grow G B k) ih s l (fg (grow F A k) s l y))
     ]
 
+-- from any start between A and what grows from it the same set grows
+pub grow-between : (n : ℕ) (F : Set → Set) → Mono n F → (A X : Set) → Sub n A X → Sub n X (grow F A n)
+    → (s : ℕ) → s < n → grow F X n s ≡ grow F A n s
+unfolding grow
+grow-between n F mono A X ax xa s l = T-ext (grow F X n s) (grow F A n s) (held n s l) (grow-sub n F F (λ Y t m x. x) mono A X ax n s l)
+  where
+    held : (k : ℕ) → Sub n (grow F X k) (grow F A n)
+    held zero s l x = xa s l x
+    held (suc k) s l x = elim (or-cases (grow F X k s) (F (grow F X k) s) x) [
+      | inl y ↦ held k s l y
+      | inr y ↦ grow-stable n F mono A n (omega arith) s l (or-r (grow F A n s) (F (grow F A n) s) (mono (grow F X k) (grow F A n) (held k) s l y))
+    ]
+
 -- ## Dropping
 
 -- where F of a complement is the complement of G, dropping by F is growing by G outside

@@ -3,3 +3,4 @@ pub mod Hunt
 pub mod Border
 pub mod Split
 pub mod Sound
+pub mod Refine

@@ -13,9 +13,9 @@ use Rattle.file.specs.Refusals.{frame, headFields, headFault, stateFields, stat
 use Rattle.decoding.specs.Decode.{turnRow, marksRow, blockRow, fromRow, toRow, gameOf}
 use Rattle.blocks.specs.Blocks.{inside, meets, split}
 use Rattle.blocks.specs.Round.{sure, possible, known, border, borderBlock, enteredSure, leftPossible}
-use Rattle.solver.specs.Run.{word, splitGame, run}
+use Rattle.runs.specs.Run.{word, splitGame, run, namedStart}
 use Rattle.solver.specs.Plan.{mark, advice, rule}
-use Rattle.solver.specs.Solve.{solveFault, namedStart, solveVerdict, solveMarks, solveBlocks, solveMoves}
+use Rattle.solver.specs.Solve.{solveFault, solveVerdict, solveMarks, solveBlocks, solveMoves}
 use Rattle.cases.specs.Files.{two, head, state, move, gameM, gameP3, gameP4, gameP5, gameP6, gameP7, gameP8, gameP9, emptyFile, headAlone}
 use Rattle.cases.specs.Table.{Line, lent, outcome, lines}
 

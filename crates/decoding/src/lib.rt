@@ -10,6 +10,8 @@ ghost use Rattle.file.specs.Layout.{states, moves};
 ghost use Rattle.file.specs.Sound.{Sound};
 ghost use Rattle.decoding.specs.Decode.{turnRow, marksRow, blockRow, fromRow, toRow, gameOf, decoded};
 
+pub mod plain;
+
 // What is said of a file: it is accepted, or it gets the refusal of this number, 2 to 11.
 pub enum Answer {
     Accepted,

@@ -13,11 +13,11 @@ use Rattle.file.specs.Fault.{unless, when, _then_, lowest}
 use Rattle.file.specs.Layout.{states, moves}
 use Rattle.file.specs.Refusals.{frame, headFields, headFault, stateFields, stateFault, moveFields, moveFault, blockFault, wholeFault, refusal}
 use Rattle.decoding.specs.Decode.{gameOf}
-use Rattle.solver.specs.Run.{Word, YES, NO, OPEN, word}
+use Rattle.runs.specs.Run.{Word, YES, NO, OPEN, word}
 use Rattle.solver.specs.Solve.{solveFault, said, verdictIf, rowIf, runOf, solveVerdict, solveMarks, solveBlocks, solveMoves, refusalNumber}
 use Rattle.solver.specs.declared.Verdict.{Verdict}
 use Rattle.solver.specs.declared.Verdict.the-variants.{Refused}
-use Rattle.solver.proofs.Runs.{run-states}
+use Rattle.runs.proofs.Runs.{run-states}
 use Rattle.solver.proofs.Answers.{refused}
 
 -- ## 'one of the refusals 1 to 11'

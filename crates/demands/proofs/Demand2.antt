@@ -17,13 +17,13 @@ use Rattle.file.specs.Refusals.{refusal}
 use Rattle.file.proofs.Laws.{then-zero}
 use Rattle.decoding.specs.Decode.{gameOf}
 use Rattle.decoding.proofs.Accepted.{accepted-game}
-use Rattle.solver.specs.Run.{Word, YES, NO, OPEN}
+use Rattle.runs.specs.Run.{Word, YES, NO, OPEN, namedStart}
 use Rattle.solver.specs.Plan.{mark, planned}
-use Rattle.solver.specs.Solve.{solveFault, namedStart, said, verdictIf, runOf, solveVerdict, solveMarks, solveMoves}
+use Rattle.solver.specs.Solve.{solveFault, said, verdictIf, runOf, solveVerdict, solveMarks, solveMoves}
 use Rattle.demands.specs.Aims.{objectiveOf, Wins, Loses, PlanWins, ByRow}
 use Rattle.demands.specs.Answers.{blocksOf, lastOf, wordOf, SomeStartWins, Promised, Made, Means}
-use Rattle.solver.proofs.Rounds.{says, accepted-live}
-use Rattle.solver.proofs.Runs.{yes-no, reblocked, run-kept, run-states, run-ended, splits-bound, never-open}
+use Rattle.runs.proofs.Rounds.{says, accepted-live}
+use Rattle.runs.proofs.Runs.{yes-no, reblocked, run-kept, run-states, run-ended, splits-bound, never-open}
 use Rattle.demands.proofs.Plans.{plan-wins}
 use Rattle.demands.proofs.Verdicts.{sure-mark, never-mark, promised}
 use Rattle.demands.proofs.Strategies.{rowStrategy, rowStrategy-takes, yes-by-row, no-by-row, same-row-wins}

@@ -21,14 +21,14 @@ use Rattle.exchange.specs.Exchange.{exchangedGame, exchangedFile, exchangeOutpu
 use Rattle.exchange.proofs.Accepted.{exchanged-accepted}
 use Rattle.exchange.proofs.Calls.{written}
 use Rattle.exchange.proofs.Game.{exchanged-game}
-use Rattle.solver.specs.Run.{Word, YES, NO, OPEN, word, Run, run, round}
+use Rattle.runs.specs.Run.{Word, YES, NO, OPEN, word, Run, run, round, namedStart}
 use Rattle.solver.specs.Plan.{mark, planned}
-use Rattle.solver.specs.Solve.{solveFault, namedStart, said, verdictIf, rowIf, runOf, solveVerdict, solveMarks, solveBlocks, solveMoves}
+use Rattle.solver.specs.Solve.{solveFault, said, verdictIf, rowIf, runOf, solveVerdict, solveMarks, solveBlocks, solveMoves}
 use Rattle.solver.specs.declared.Verdict.the-variants.{Yes}
 use Rattle.demands.specs.Aims.{Wins}
 use Rattle.demands.specs.Trades.{SingleStart, tradeWord, tradeMark, tradeRun, tradeVerdict, SameRound}
-use Rattle.solver.proofs.Rounds.{says}
-use Rattle.solver.proofs.Runs.{run-states, run-initials, round-accepted, run-ended}
+use Rattle.runs.proofs.Rounds.{says}
+use Rattle.runs.proofs.Runs.{run-states, run-initials, round-accepted, run-ended}
 use Rattle.demands.proofs.Exchanged.{known-exchanged, border-exchanged, mark-exchanged, plan-exchanged}
 use Rattle.demands.proofs.ExchangedRun.{wins-exchanged, round-exchanged, exchanged-single, word-exchanged, run-exchanged}
 

@@ -18,10 +18,10 @@ use Rattle.exchange.proofs.Fields.{marks-initial, marks-target}
 use Rattle.blocks.specs.Blocks.{split}
 use Rattle.blocks.specs.Round.{sure, possible, known, borderBlock}
 use Rattle.blocks.proofs.Sound.{sure-possible}
-use Rattle.solver.specs.Run.{borderOf, sureStates, possibleStates, knownStates, Word, YES, NO, OPEN, splitGame}
+use Rattle.runs.specs.Run.{borderOf, sureStates, possibleStates, knownStates, Word, YES, NO, OPEN, splitGame}
 use Rattle.solver.specs.Plan.{mark, noMove, successors, advice, earlierSure, earlierNever, rule, planned}
 use Rattle.demands.specs.Trades.{tradeWord, tradeMark}
-use Rattle.solver.proofs.Runs.{reblocked}
+use Rattle.runs.proofs.Runs.{reblocked}
 use Rattle.demands.proofs.Traded.{Agree, least-cong, mine-traded}
 use Rattle.demands.proofs.TradedRound.{sure-traded, possible-traded, known-traded, border-block-traded, entered-traded, left-traded}
 

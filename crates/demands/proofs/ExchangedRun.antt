@@ -16,10 +16,10 @@ use Rattle.game.specs.Accepted.{Accepted}
 use Rattle.game.specs.declared.Game.{Game}
 use Rattle.exchange.specs.Exchange.{exchangedGame}
 use Rattle.blocks.proofs.Sound.{sure-possible}
-use Rattle.solver.specs.Run.{round, sureStates, possibleStates, Word, YES, NO, OPEN, word, splitGame, Run, oneMore, ended, ifOpen, run}
+use Rattle.runs.specs.Run.{round, sureStates, possibleStates, Word, YES, NO, OPEN, word, splitGame, Run, oneMore, ended, ifOpen, run}
 use Rattle.demands.specs.Aims.{Wins}
 use Rattle.demands.specs.Trades.{SingleStart, tradeWord, tradeRun}
-use Rattle.solver.proofs.Rounds.{accepted-live, split-accepted}
+use Rattle.runs.proofs.Rounds.{accepted-live, split-accepted}
 use Rattle.demands.proofs.Traded.{region-traded}
 use Rattle.demands.proofs.Exchanged.{turnsOf, turns-flipped, goal-opposite, targets-opposite, initials-same, sure-exchanged, possible-exchanged, split-exchanged}
 

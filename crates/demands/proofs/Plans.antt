@@ -17,11 +17,10 @@ use Rattle.game.specs.declared.Game.{Game}
 use Rattle.blocks.specs.Round.{sure, possible}
 use Rattle.blocks.specs.Hunt.{lower, upper}
 use Rattle.blocks.proofs.Hunt.{lower-target, lower-upper, sure-reach, possible-reach, sure-stay, never-stay, entered-rank, left-rank}
-use Rattle.solver.specs.Run.{sureStates, possibleStates, Word, YES, NO, OPEN}
+use Rattle.runs.specs.Run.{sureStates, possibleStates, Word, YES, NO, OPEN, namedStart}
 use Rattle.solver.specs.Plan.{noMove, successors, advice, earlierSure, earlierNever, rule, planned}
-use Rattle.solver.specs.Solve.{namedStart}
 use Rattle.demands.specs.Aims.{winner, aim, ground, Met, Pending, Opens, Obeys, Advised, PlanWins}
-use Rattle.solver.proofs.Rounds.{Says, accepted-live}
+use Rattle.runs.proofs.Rounds.{Says, accepted-live}
 use Rattle.demands.proofs.Plays.{Guides, onTheWay, earlier, hunted-down, hunter-advised, safe, never-caught, hunted-advised}
 
 -- ## The places of a row

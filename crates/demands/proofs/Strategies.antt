@@ -12,7 +12,7 @@ use Rattle.arena.proofs.Tests.{cond-ind}
 use Rattle.arena.proofs.Sets.{some-intro, least-some}
 use Rattle.arena.proofs.Plays.{outcome-start, outcome-play, outcome-mine, outcome-theirs}
 use Rattle.arena.proofs.Win.{opposed}
-use Rattle.solver.specs.Run.{Word, YES, NO}
+use Rattle.runs.specs.Run.{Word, YES, NO}
 use Rattle.solver.specs.Plan.{noMove}
 use Rattle.demands.specs.Aims.{winner, Met, Obeys, Advised, WinningPlan, ByRow}
 

@@ -9,12 +9,11 @@ use Rattle.game.specs.Arena.{goalOf, arenaOf}
 use Rattle.game.specs.Accepted.{Accepted}
 use Rattle.game.specs.declared.Game.{Game}
 use Rattle.blocks.proofs.Sound.{sure-wins, wins-possible, never-spoils}
-use Rattle.solver.specs.Run.{sureStates, possibleStates, Word, YES, NO, OPEN}
+use Rattle.runs.specs.Run.{sureStates, possibleStates, Word, YES, NO, OPEN, namedStart}
 use Rattle.solver.specs.Plan.{mark}
-use Rattle.solver.specs.Solve.{namedStart}
 use Rattle.demands.specs.Aims.{Wins, Loses}
 use Rattle.demands.specs.Answers.{Promised}
-use Rattle.solver.proofs.Rounds.{Says, accepted-live}
+use Rattle.runs.proofs.Rounds.{Says, accepted-live}
 
 -- the mark of a state that is sure or not, and possible or not
 abbrev marking : Bool → Bool → ℕ

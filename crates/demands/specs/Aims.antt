@@ -10,7 +10,7 @@ use Rattle.arena.specs.Win.{Objective, Stay, Goal, toReach, toStay, swapGoal, o
 use Rattle.game.specs.Game.{initials, targets}
 use Rattle.game.specs.Arena.{goalOf, arenaOf}
 use Rattle.game.specs.declared.Game.{Game}
-use Rattle.solver.specs.Run.{Word, YES, NO, OPEN}
+use Rattle.runs.specs.Run.{Word, YES, NO, OPEN}
 use Rattle.solver.specs.Plan.{noMove}
 
 -- ## Winning a game, by the published definition, which knows no blocks

@@ -8,7 +8,7 @@ use Rattle.game.specs.Game.{blockAt, initials}
 use Rattle.game.specs.declared.Game.{Game}
 use Rattle.decoding.specs.Decode.{gameOf}
 use Rattle.blocks.specs.Blocks.{blockCount}
-use Rattle.solver.specs.Run.{Word, YES, NO, OPEN, word}
+use Rattle.runs.specs.Run.{Word, YES, NO, OPEN, word}
 use Rattle.solver.specs.Solve.{runOf}
 use Rattle.solver.specs.declared.Verdict.{Verdict}
 use Rattle.solver.specs.declared.Verdict.the-variants.{Yes, No, Open, Refused}

@@ -5,7 +5,7 @@ use lib.Dec.{T}
 use Rattle.game.specs.Game.{stateNo, initials}
 use Rattle.game.specs.declared.Game.{Game}
 use Rattle.exchange.specs.Exchange.{exchangedGame}
-use Rattle.solver.specs.Run.{knownStates, borderOf, Word, YES, NO, OPEN, Run}
+use Rattle.runs.specs.Run.{knownStates, borderOf, Word, YES, NO, OPEN, Run}
 use Rattle.solver.specs.Plan.{mark}
 use Rattle.solver.specs.declared.Verdict.{Verdict}
 use Rattle.solver.specs.declared.Verdict.the-variants.{Yes, No, Open, Refused}

@@ -1,8 +1,4 @@
-pub mod Rows
 pub mod Prey
-pub mod Walk
-pub mod Joining
-pub mod Stamp
+pub mod Moves
 pub mod Searching
-pub mod Split
 pub mod RowSets

@@ -1,4 +1,3 @@
-pub mod Stamp
-pub mod Joining
 pub mod Border
 pub mod Split
+pub mod Search

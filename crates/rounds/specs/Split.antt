@@ -1,22 +1,19 @@
--- The split of one block.
+-- The split of one block, in rows of plain numbers.
 use Prim.Native.Nat.{ℕ}
+use mathlib.Core.Bool.{not, _&&_, cond, Bool·beq}
 use mathlib.Core.List.{List}
 use lib.ListN.{getD}
-use lib.Dec.{eqb}
+use lib.Dec.{eqb, leb}
 use Rattle.arena.specs.Sets.{Set}
-use Rattle.game.specs.Rows.{fill}
-use Rattle.game.specs.Game.{blockNo}
-use Rattle.game.specs.declared.BlockNo.{BlockNo}
-use Rattle.blocks.specs.Blocks.{split}
 
--- the set of the states at which a row holds 1
-abbrev pub ones : List ℕ → Set
-ones row s = eqb (getD row s 0) 1
+-- the states that have as many moves as they need
+abbrev pub enough : List ℕ → List ℕ → Set
+enough need have s = leb (getD need s 0) (getD have s 0)
 
--- the number of the block that stands at each place of a row of blocks
-abbrev pub numberAt : List BlockNo → ℕ → ℕ
-numberAt row s = getD row s (blockNo 0) .0
+-- the members of block b in the part that state b is not in, where C tells the two parts
+abbrev pub apart : List ℕ → ℕ → Set → Set
+apart block b C t = eqb (getD block t 0) b && not (Bool·beq (C t) (C b))
 
--- 01, 'One round': the row of blocks with block b split into the members inside C and the others
-unfoldable pub splitRow : ℕ → List BlockNo → ℕ → Set → List BlockNo
-splitRow n row b C = fill n (λ s. blockNo (split n (numberAt row) b C s)) row
+-- the block of each state once that part has a name of its own
+abbrev pub afterSplit : ℕ → List ℕ → ℕ → Set → ℕ → ℕ
+afterSplit name block b C s = cond (apart block b C s) name (getD block s 0)

@@ -1,35 +1,31 @@
-// One round of 01 over the present blocks of a game: forced steps, passes, the border block and its split. All is seen
-// from the side that hunts, so that reach and stay go the same way. A row of passes holds 0 for a state outside the
-// set, and otherwise the pass in which it entered; pass 1 is the prey itself.
+// One round of 01 over the present blocks of a game: the prey, the border block and its split. All is seen from the side
+// that hunts, so that reach and stay go the same way. A row of passes holds 0 for a state outside the set, and otherwise
+// the pass in which it entered; pass 1 is the prey itself. What loops go through at each round is lent as plain numbers.
+use chains::clear;
+use chains::relink;
 use game::BlockNo;
 use game::Game;
 use game::has_mark;
 ghost use mathlib.Core.Path.{_≡_};
-ghost use mathlib.Core.Bool.{not, _&&_, cond, Bool·beq};
-ghost use Prim.Native.Nat.{_≤_};
+ghost use mathlib.Core.Bool.{not, _&&_, cond};
+ghost use Prim.Native.Nat.{ℕ, suc, _≤_, _<_};
 ghost use lib.ListN.{length, getD};
 ghost use lib.Dec.{T, eqb};
-ghost use Rattle.arena.specs.Sets.{some, bit, least};
-ghost use Rattle.arena.specs.Game.{forced};
-ghost use Rattle.game.specs.Limits.{maxStates};
+ghost use Rattle.arena.specs.Sets.{bit, least};
+ghost use Rattle.game.specs.Limits.{maxStates, maxMoves};
 ghost use Rattle.game.specs.Rows.{fill, zeros};
-ghost use Rattle.game.specs.Game.{knownTurn, marked, blockNo};
-ghost use Rattle.game.specs.Arena.{sideOf, goalOf, arenaOf};
-ghost use Rattle.game.specs.Accepted.{Accepted};
+ghost use Rattle.game.specs.Game.{knownTurn, marked};
+ghost use Rattle.game.specs.Arena.{sideOf, goalOf};
+ghost use Rattle.game.specs.declared.Game.{Game};
 ghost use Rattle.blocks.specs.Hunt.{hunter, prey};
-ghost use Rattle.rounds.specs.Stamp.{passAt, isIn, passNo, stampFrom, joining};
-ghost use Rattle.rounds.specs.Joining.{Below, hitRow, joinsBy, blockJoins};
+ghost use Rattle.chains.specs.Lent.{Holds, Keys, Names, Gathered};
+ghost use Rattle.growth.specs.Net.{hitsOf};
 ghost use Rattle.rounds.specs.Border.{bordering, borderAnswer};
-ghost use Rattle.rounds.specs.Split.{ones, numberAt, splitRow};
-
-// A set of states: 1 for a member, 0 for any other.
-pub type StateSet = [u8; Game::MAX_STATES];
+ghost use Rattle.rounds.specs.Split.{enough, apart, afterSplit};
+ghost use Rattle.rounds.specs.Search.{firstMove, Search};
 
 // A row of passes.
 pub type PassRow = [u16; Game::MAX_STATES];
-
-// The block of each state.
-pub type BlockRow = [BlockNo; Game::MAX_STATES];
 
 // What the search for a border block found.
 pub enum Border {
@@ -62,150 +58,6 @@ fn after_move(own: bool, into: bool, known: u8) -> u8
         return known;
     }
     0
-}
-
-// Before any move is seen: a state of the side itself is not forced, and one of the other side is.
-fn opening_row(n: usize, turn: [u8; Game::MAX_STATES], side: u8) -> StateSet
-    requires { ⌜ n ≤ maxStates ⌝ }
-    ensures { λ r. ⌜ r ≡ fill n (λ s. bit (not (eqb (getD turn s 0) side))) (zeros maxStates) ⌝ }
-{
-    let mut out = [0u8; Game::MAX_STATES];
-    let mut s: usize = 0;
-    while s < n {
-        out[s] = zero_if(turn[s] == side);
-        s += 1;
-    }
-    out
-}
-
-// The side's forced-step set of the row's set, 1 for a member, by one walk over the moves.
-pub fn forced_step(g: Game, side: u8, row: PassRow) -> StateSet
-    requires { ⌜ Accepted g ⌝ }
-    requires { ⌜ T (knownTurn side) ⌝ }
-    ensures { λ r. ⌜ r ≡ fill (g .states) (λ s. bit (forced (arenaOf g) (sideOf side) (isIn row) s)) (zeros maxStates) ⌝ }
-{
-    let m = g.moves;
-    let turn = g.turn;
-    let mut out = opening_row(g.states, turn, side);
-    let mut k: usize = 0;
-    while k < m {
-        let f = g.from[k].0 as usize;
-        let t = g.to[k].0 as usize;
-        out[f] = after_move(turn[f] == side, row[t] != 0, out[f]);
-        k += 1;
-    }
-    out
-}
-
-// 1 where a further test passed, and what stood there where it did not.
-fn raised(found: bool, before: u8) -> u8
-    ensures { λ r. ⌜ r ≡ cond found 1 before ⌝ }
-{
-    if found {
-        return 1;
-    }
-    before
-}
-
-// The number of each state's block.
-pub fn block_row(n: usize, block: BlockRow) -> [u16; Game::MAX_STATES]
-    requires { ⌜ n ≤ maxStates ⌝ }
-    ensures { λ r. ⌜ r ≡ fill n (numberAt block) (zeros maxStates) ⌝ }
-{
-    let mut numbers = [0u16; Game::MAX_STATES];
-    let mut s: usize = 0;
-    while s < n {
-        numbers[s] = block[s].0;
-        s += 1;
-    }
-    numbers
-}
-
-// Puts 1 into a row of zeros, by block number, for each block with a member at which the set holds what is wanted.
-fn hit_blocks(n: usize, block: &[u16], set: &[u8], want: u8, hit: &mut [u8])
-    requires { ⌜ (n ≤ maxStates) × (n ≤ length (now block)) × (n ≤ length (now set)) × Below n (now block) × (now hit ≡ zeros maxStates) ⌝ }
-    ensures { λ _. ⌜ now (hit .exit) ≡ hitRow n (now (block .entry)) (now (set .entry)) want ⌝ }
-{
-    let mut s: usize = 0;
-    while s < n {
-        let b = block[s] as usize;
-        hit[b] = raised(set[s] == want, hit[b]);
-        s += 1;
-    }
-}
-
-// The block joins: no member outside was found, or one inside was.
-fn joins(whole: bool, hit: u8) -> bool
-    ensures { λ r. ⌜ r ≡ joinsBy whole hit ⌝ }
-{
-    if whole {
-        return hit == 0;
-    }
-    hit == 1
-}
-
-// Every state outside whose block joins gets this pass's number. Whether there was one.
-fn join_blocks(
-    n: usize,
-    block: &[u16],
-    hit: &[u8],
-    whole: bool,
-    number: u16,
-    row: &mut [u16],
-) -> bool
-    requires { ⌜ (n ≤ maxStates) × (n ≤ length (now block)) × (n ≤ length (now hit)) × (n ≤ length (now row)) × Below n (now block) ⌝ }
-    ensures { λ r. ⌜ r ≡ some n (λ s. eqb (passAt (now (row .entry)) s) 0 && blockJoins whole (now (block .entry)) (now (hit .entry)) s) ⌝ }
-    ensures { λ _. ⌜ now (row .exit) ≡ fill n (λ s. passNo (passAt (now (row .entry)) s) (blockJoins whole (now (block .entry)) (now (hit .entry)) s) number) (now (row .entry)) ⌝ }
-{
-    let mut joined = false;
-    let mut s: usize = 0;
-    while s < n {
-        let b = block[s] as usize;
-        if row[s] == 0 {
-            if joins(whole, hit[b]) {
-                row[s] = number;
-                joined = true;
-            }
-        }
-        s += 1;
-    }
-    joined
-}
-
-// The passes from the row's set on, until one adds nothing: sure where whole blocks must be inside, possible where it
-// is enough that they meet.
-pub fn passes(g: Game, side: u8, whole: bool, start: PassRow) -> PassRow
-    requires { ⌜ Accepted g ⌝ }
-    requires { ⌜ T (knownTurn side) ⌝ }
-    ensures { λ r. ⌜ r ≡ fill (g .states) (stampFrom (joining g side whole) (passAt start) (g .states)) start ⌝ }
-{
-    let n = g.states;
-    let m = g.moves;
-    let turn = g.turn;
-    let named = g.block;
-    let block = block_row(n, named);
-    let opening = opening_row(n, turn, side);
-    let want = zero_if(whole);
-    let mut row = start;
-    let mut pass: usize = 0;
-    while pass < n {
-        let mut step = opening;
-        let mut k: usize = 0;
-        while k < m {
-            let f = g.from[k].0 as usize;
-            let t = g.to[k].0 as usize;
-            step[f] = after_move(turn[f] == side, row[t] != 0, step[f]);
-            k += 1;
-        }
-        let mut hit = [0u8; Game::MAX_STATES];
-        hit_blocks(n, &block, &step, want, &mut hit);
-        let number = (pass + 2) as u16;
-        if !join_blocks(n, &block, &hit, whole, number, &mut row) {
-            return row;
-        }
-        pass += 1;
-    }
-    row
 }
 
 // The side that wants to bring the play somewhere: side 1 to the target, or side 2 out of it.
@@ -243,51 +95,74 @@ pub fn prey_row(n: usize, objective: u16, marks: [u8; Game::MAX_STATES]) -> Pass
     row
 }
 
-// This state names an open block: it is the block's number, possible and not sure.
-fn is_open(block: u16, b: u16, lower: u16, upper: u16) -> bool
-    ensures { λ r. ⌜ r ≡ (eqb block b && not (eqb upper 0) && not (not (eqb lower 0))) ⌝ }
+// Where each state's moves begin: those of s are from first[s] up to first[s + 1], since moves ascend.
+pub fn first_moves(n: usize, m: usize, from: &[u16], first: &mut [u16])
+    requires { ⌜ (n ≤ maxStates) × (m ≤ maxMoves) × Keys n m (now from) × (n < length (now first)) ⌝ }
+    ensures { λ _. ⌜ Holds (suc n) (now (first .exit)) (firstMove (λ k. getD (now (from .entry)) k 0) m) ⌝ }
+{
+    clear(n + 1, first);
+    let mut k: usize = 0;
+    while k < m {
+        let next = from[k] as usize + 1;
+        first[next] = (k + 1) as u16;
+        k += 1;
+    }
+}
+
+// This state names a block outside the lower row that has a hit: it is the block's number, and not in that row.
+fn is_open(block: u16, b: u16, lower: u16, hit: u16) -> bool
+    ensures { λ r. ⌜ r ≡ (eqb block b && (eqb lower 0 && not (eqb hit 0))) ⌝ }
 {
     if block != b {
         return false;
     }
-    if upper == 0 {
+    if lower != 0 {
         return false;
     }
-    lower == 0
+    hit != 0
 }
 
-// The lowest-numbered border block: an open block with a member in the side's forced-step set of the lower row.
-pub fn border_block(g: Game, lower: PassRow, upper: PassRow, side: u8) -> Border
-    requires { ⌜ Accepted g ⌝ }
-    requires { ⌜ T (knownTurn side) ⌝ }
-    ensures { λ r. ⌜ r ≡ borderAnswer (g .states) (bordering g side lower upper) ⌝ }
+// The lowest-numbered border block: a block outside the lower row with a member in the side's forced-step set of it.
+// A block without a hit has none and is passed over. Members are taken along the block's chain, which counts states from
+// 1, and moves from where each state's begin: each move of a block is looked at once.
+pub fn border_block(
+    n: usize,
+    m: usize,
+    side: u8,
+    turn: &[u8],
+    first: &[u16],
+    to: &[u16],
+    block: &[u16],
+    last: &[u16],
+    before: &[u16],
+    lower: &[u16],
+    hit: &[u16],
+) -> Border
+    requires { ⌜ ((g : Game) × Search g side n m (now turn) (now first) (now to) (now block) (now last) (now before) (now lower) (now hit)) × (n ≤ length (now lower)) × (n ≤ length (now hit)) ⌝ }
+    ensures { λ r. ⌜ ((g : Game) → Search g side n m (now (turn .entry)) (now (first .entry)) (now (to .entry)) (now (block .entry)) (now (last .entry)) (now (before .entry)) (now (lower .entry)) (now (hit .entry)) → r ≡ borderAnswer n (bordering g side (now (lower .entry)))) ⌝ }
 {
-    let n = g.states;
-    let m = g.moves;
     let mut b: usize = 0;
     let found = 'search: loop {
         if b >= n {
             break 'search Border::Nothing;
         }
-        if is_open(g.block[b].0, b as u16, lower[b], upper[b]) {
-            let mut s: usize = 0;
-            while s < n {
-                if g.block[s].0 as usize == b {
-                    let own = g.turn[s] == side;
-                    let mut known = zero_if(own);
-                    let mut k: usize = 0;
-                    while k < m {
-                        if g.from[k].0 as usize == s {
-                            let t = g.to[k].0 as usize;
-                            known = after_move(own, lower[t] != 0, known);
-                        }
-                        k += 1;
-                    }
-                    if known == 1 {
-                        break 'search Border::At(BlockNo(b as u16));
-                    }
+        if is_open(block[b], b as u16, lower[b], hit[b]) {
+            let mut at = last[b] as usize;
+            while at > 0 {
+                let s = at - 1;
+                let own = turn[s] == side;
+                let mut known = zero_if(own);
+                let end = first[at] as usize;
+                let mut k = first[s] as usize;
+                while k < end {
+                    let t = to[k] as usize;
+                    known = after_move(own, lower[t] != 0, known);
+                    k += 1;
                 }
-                s += 1;
+                if known == 1 {
+                    break 'search Border::At(BlockNo(b as u16));
+                }
+                at = before[s] as usize;
             }
         }
         b += 1;
@@ -295,15 +170,17 @@ pub fn border_block(g: Game, lower: PassRow, upper: PassRow, side: u8) -> Border
     found
 }
 
-// The lowest member of block b that is inside, or that is not; the number of states where there is none.
-fn lowest_member(n: usize, block: BlockRow, b: BlockNo, inside: StateSet, want: bool) -> u16
-    requires { ⌜ n ≤ maxStates ⌝ }
-    ensures { λ r. ⌜ r ≡ least n (λ t. eqb (numberAt block t) (b .0) && Bool·beq (ones inside t) want) ⌝ }
+// The lowest member of block b in the part that state b is not in; the number of states where there is none.
+fn lowest_apart(n: usize, b: usize, need: &[u16], have: &[u16], block: &[u16]) -> u16
+    requires { ⌜ (n ≤ maxStates) × (b < n) × (n ≤ length (now need)) × (n ≤ length (now have)) × (n ≤ length (now block)) ⌝ }
+    ensures { λ r. ⌜ r ≡ least n (apart (now (block .entry)) b (enough (now (need .entry)) (now (have .entry)))) ⌝ }
 {
+    let inside = have[b] >= need[b];
+    let number = b as u16;
     let mut s: usize = 0;
     while s < n {
-        if block[s].0 == b.0 {
-            if (inside[s] == 1) == want {
+        if block[s] == number {
+            if (have[s] >= need[s]) != inside {
                 return s as u16;
             }
         }
@@ -312,32 +189,83 @@ fn lowest_member(n: usize, block: BlockRow, b: BlockNo, inside: StateSet, want: 
     n as u16
 }
 
-// The block of a state after the split of b: the part that it lies in, if it is of b, and its own block otherwise.
-fn part(own: BlockNo, b: BlockNo, inside: bool, inner: u16, outer: u16) -> BlockNo
-    ensures { λ r. ⌜ r ≡ blockNo (cond (eqb (own .0) (b .0)) (cond inside inner outer) (own .0)) ⌝ }
+// The new name for a member of block b that is not in one part together with state b, and its own block for any other state.
+fn renamed(own: u16, b: u16, together: bool, name: u16) -> u16
+    ensures { λ r. ⌜ r ≡ cond (eqb own b && not together) name own ⌝ }
 {
-    if own.0 != b.0 {
+    if own != b {
         return own;
     }
-    if inside {
-        return BlockNo(inner);
+    if together {
+        return own;
     }
-    BlockNo(outer)
+    name
 }
 
-// The row of blocks with block b split into the members inside and the others.
-pub fn split_block(n: usize, block: BlockRow, b: BlockNo, inside: StateSet) -> BlockRow
-    requires { ⌜ n ≤ maxStates ⌝ }
-    ensures { λ r. ⌜ r ≡ splitRow n block (b .0) (ones inside) ⌝ }
+// Gives this name to the part of block b that state b is not in.
+fn rename_apart(n: usize, b: usize, name: u16, need: &[u16], have: &[u16], block: &mut [u16])
+    requires { ⌜ (n ≤ maxStates) × (b < n) × (n ≤ length (now need)) × (n ≤ length (now have)) × (n ≤ length (now block)) ⌝ }
+    ensures { λ _. ⌜ Holds n (now (block .exit)) (afterSplit name (now (block .entry)) b (enough (now (need .entry)) (now (have .entry)))) ⌝ }
 {
-    let inner = lowest_member(n, block, b, inside, true);
-    let outer = lowest_member(n, block, b, inside, false);
-    let mut finer = block;
+    let inside = have[b] >= need[b];
+    let number = b as u16;
     let mut s: usize = 0;
     while s < n {
-        let own = block[s];
-        finer[s] = part(own, b, inside[s] == 1, inner, outer);
+        block[s] = renamed(block[s], number, (have[s] >= need[s]) == inside, name);
         s += 1;
     }
-    finer
+}
+
+// Splits block b into the members that have what they need and the others: the part that holds state b keeps the name b,
+// the other gets the name that is returned.
+pub fn split_block(n: usize, b: usize, need: &[u16], have: &[u16], block: &mut [u16]) -> u16
+    requires { ⌜ (n ≤ maxStates) × (b < n) × (n ≤ length (now need)) × (n ≤ length (now have)) × (n ≤ length (now block)) ⌝ }
+    ensures { λ r. ⌜ r ≡ least n (apart (now (block .entry)) b (enough (now (need .entry)) (now (have .entry)))) ⌝ }
+    ensures { λ r. ⌜ Holds n (now (block .exit)) (afterSplit r (now (block .entry)) b (enough (now (need .entry)) (now (have .entry)))) ⌝ }
+{
+    let name = lowest_apart(n, b, need, have, block);
+    rename_apart(n, b, name, need, have, block);
+    name
+}
+
+// The number where the test holds, and 0 where it does not.
+fn only_if(test: bool, number: u16) -> u16
+    ensures { λ r. ⌜ r ≡ cond test number 0 ⌝ }
+{
+    if test {
+        return number;
+    }
+    0
+}
+
+// Splits block b as `split_block` does, and keeps the chains of members, the sizes and the hits of all blocks: all members
+// of the one part have what they need, and none of the other.
+pub fn part_block(
+    n: usize,
+    b: usize,
+    need: &[u16],
+    have: &[u16],
+    block: &mut [u16],
+    last: &mut [u16],
+    before: &mut [u16],
+    size: &mut [u16],
+    hit: &mut [u16],
+) -> u16
+    requires { ⌜ (n ≤ maxStates) × (b < n) × (n ≤ length (now need)) × (n ≤ length (now have)) × (n ≤ length (now block)) × Names n (now block) × (getD (now block) b 0 ≡ b) × Gathered n (now block) (now last) (now before) (now size) × Holds n (now hit) (hitsOf n (now block) (now need) (λ s. getD (now have) s 0)) × (least n (apart (now block) b (enough (now need) (now have))) < n) ⌝ }
+    ensures { λ r. ⌜ r ≡ least n (apart (now (block .entry)) b (enough (now (need .entry)) (now (have .entry)))) ⌝ }
+    ensures { λ r. ⌜ Holds n (now (block .exit)) (afterSplit r (now (block .entry)) b (enough (now (need .entry)) (now (have .entry)))) ⌝ }
+    ensures { λ _. ⌜ Gathered n (now (block .exit)) (now (last .exit)) (now (before .exit)) (now (size .exit)) × Holds n (now (hit .exit)) (hitsOf n (now (block .exit)) (now (need .entry)) (λ s. getD (now (have .entry)) s 0)) ⌝ }
+{
+    let name = split_block(n, b, need, have, block);
+    let other = name as usize;
+    let one = relink(n, b, block, before);
+    let two = relink(n, other, block, before);
+    last[b] = one.last;
+    last[other] = two.last;
+    size[b] = one.size;
+    size[other] = two.size;
+    let inside = have[b] >= need[b];
+    hit[b] = only_if(inside, one.size);
+    hit[other] = only_if(!inside, two.size);
+    name
 }

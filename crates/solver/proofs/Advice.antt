@@ -19,24 +19,32 @@ use Rattle.game.specs.declared.Game.{Game}
 use Rattle.solver.specs.Plan.{noMove, successors}
 use Rattle.solver.specs.Work.{goodMove, lowerOf, lowestGood}
 
-module _ (g : Game) (side : ℕ) (chase : Bool) (row : ℕ → ℕ) where
+module _ (side : ℕ) (chase : Bool) (turn from to row : ℕ → ℕ) where
   -- before the first move there is none
-  pub good-none : (s : ℕ) → lowestGood g side chase row 0 s ≡ noMove
+  pub good-none : (s : ℕ) → lowestGood side chase turn from to row 0 s ≡ noMove
   unfolding lowestGood
   good-none s = refl
 
   -- the state that move k leaves; best, good and v are what the code read and what a call gave
-  pub good-more : (k best v : ℕ) (good : Bool) → best ≡ lowestGood g side chase row k (fromAt g k)
-      → good ≡ goodMove chase (row (fromAt g k)) (row (toAt g k))
-      → v ≡ lowerOf best (toAt g k) (eqb (turnAt g (fromAt g k)) side && good)
-      → v ≡ lowestGood g side chase row (k + 1) (fromAt g k)
+  pub good-more : (k best v : ℕ) (good : Bool) → best ≡ lowestGood side chase turn from to row k (from k)
+      → good ≡ goodMove chase (row (from k)) (row (to k))
+      → v ≡ lowerOf best (to k) (eqb (turn (from k)) side && good)
+      → v ≡ lowestGood side chase turn from to row (k + 1) (from k)
   unfolding lowestGood
-  good-more k best v good p q r = rw (add-one, eq-eqb (fromAt g k) (fromAt g k) refl) (r ∙ rw (p, q))
+  good-more k best v good p q r = rw (add-one, eq-eqb (from k) (from k) refl) (r ∙ rw (p, q))
 
   -- every other state keeps what it has
-  pub good-same : (k s : ℕ) → (s ≡ fromAt g k → ⊥) → lowestGood g side chase row k s ≡ lowestGood g side chase row (k + 1) s
+  pub good-same : (k s : ℕ) → (s ≡ from k → ⊥) → lowestGood side chase turn from to row k s ≡ lowestGood side chase turn from to row (k + 1) s
   unfolding lowestGood
-  good-same k s ne = rw (add-one, ne-eqb (fromAt g k) s (λ e. ne (sym e)))
+  good-same k s ne = rw (add-one, ne-eqb (from k) s (λ e. ne (sym e)))
+
+  -- by rows that hold the same
+  pub good-alike : (turn₁ from₁ to₁ : ℕ → ℕ) (m s : ℕ) → turn s ≡ turn₁ s → ((k : ℕ) → k < m → from k ≡ from₁ k) → ((k : ℕ) → k < m → to k ≡ to₁ k)
+      → lowestGood side chase turn from to row m s ≡ lowestGood side chase turn₁ from₁ to₁ row m s
+  unfolding lowestGood
+  good-alike turn₁ from₁ to₁ zero s a b c = refl
+  good-alike turn₁ from₁ to₁ (suc m) s a b c =
+      rw (good-alike turn₁ from₁ to₁ m s a (λ k l. b k (omega arith)) (λ k l. c k (omega arith)), a, b m (omega arith), c m (omega arith)) refl
 
 -- ## The walk finds the lowest successor that is good
 
@@ -46,7 +54,7 @@ module _ (g : Game) (ok : Accepted g) (side : ℕ) (chase : Bool) (row : ℕ →
   good j = eqb (fromAt g j) s && (eqb (turnAt g s) side && goodMove chase (row s) (row (toAt g j)))
 
   best : ℕ → ℕ
-  best k = lowestGood g side chase row k s
+  best k = lowestGood side chase (turnAt g) (fromAt g) (toAt g) row k s
 
   -- one move more, if it is good, is taken where it is lower
   best-more : (k : ℕ) → best (suc k) ≡ cond (good k) (cond (ltb (toAt g k) (best k)) (toAt g k) (best k)) (best k)
@@ -117,7 +125,7 @@ module _ (g : Game) (ok : Accepted g) (side : ℕ) (chase : Bool) (row : ℕ →
       )
 
   -- what the walk leaves at s: its lowest-numbered good successor, if it is the side's and has one
-  pub walked : (Y : Set) → ((t : ℕ) → Y t ≡ goodMove chase (row s) (row t)) → lowestGood g side chase row (g .moves) s
+  pub walked : (Y : Set) → ((t : ℕ) → Y t ≡ goodMove chase (row s) (row t)) → lowestGood side chase (turnAt g) (fromAt g) (toAt g) row (g .moves) s
       ≡ cond (eqb (turnAt g s) side && some (g .states) (successors g s Y)) (least (g .states) (successors g s Y)) noMove
   unfolding best Found
   walked Y y = elim (decT (eqb (turnAt g s) side && some (g .states) (successors g s Y))) [
@@ -128,7 +136,7 @@ module _ (g : Game) (ok : Accepted g) (side : ℕ) (chase : Bool) (row : ℕ →
   ]
     where
       v : ℕ
-      v = lowestGood g side chase row (g .moves) s
+      v = lowestGood side chase (turnAt g) (fromAt g) (toAt g) row (g .moves) s
 
       nowhere : (T (eqb (turnAt g s) side && some (g .states) (successors g s Y)) → ⊥) → Found (g .moves) v → v ≡ noMove
       nowhere none f = elim (f .1) [

@@ -1,8 +1,9 @@
 -- The ends of the solver: refusals, and the rows that are written.
-use mathlib.Core.Path.{_≡_, refl, ap, _∙_}
+use mathlib.Core.Path.{_≡_, refl, sym, ap, subst, _∙_}
 use mathlib.Core.Bool.{_&&_}
 use mathlib.Core.List.{List}
 use Prim.Native.Nat.{ℕ, zero, suc, _≤_, _<_}
+use native.Mathlib.Omega.{arith}
 use lib.ListN.{length, getD}
 use lib.Dec.{leb}
 use borrow.Author.Tests.{le-leb, lt-leb}
@@ -10,17 +11,19 @@ use Rattle.game.specs.Limits.{maxStates}
 use Rattle.game.specs.Rows.{fill, zeros}
 use Rattle.game.specs.declared.Game.{Game}
 use Rattle.game.proofs.Rows.{fill-at, fill-cong}
-use Rattle.game.specs.Game.{blockAt}
+use Rattle.game.specs.Game.{turnAt, blockAt}
 use Rattle.file.specs.Refusals.{refusal}
 use Rattle.decoding.specs.Decode.{gameOf}
 use Rattle.arena.proofs.Choices.{both, first-not, second-not}
 use Rattle.file.proofs.Laws.{unless-stop, unless-pass}
-use Rattle.solver.specs.Run.{Word, YES, NO, OPEN, word, run}
+use Rattle.chains.specs.Lent.{Holds}
+use Rattle.runs.specs.Run.{Word, YES, NO, OPEN, word, run}
 use Rattle.solver.specs.Plan.{mark, planned}
 use Rattle.solver.specs.Solve.{solveFault, said, verdictIf, rowIf, solveVerdict, solveMarks, solveBlocks, solveMoves}
-use Rattle.solver.specs.Work.{decisionOf, saidBy}
+use Rattle.solver.specs.Work.{markNo, Finished, Planning, decisionBy, decisionOf, saidBy}
 use Rattle.solver.specs.declared.Verdict.{Verdict}
 use Rattle.solver.specs.declared.Verdict.the-variants.{Refused}
+use Rattle.solver.proofs.Marks.{mark-is, decision-is}
 
 -- ## Refusals
 
@@ -68,14 +71,44 @@ said-by YES g n = refl
 said-by NO g n = refl
 said-by OPEN g n = refl
 
--- a lent row, written from a row at work whose places are F's at the game g; h is what the definition calls g
-pub written : (F : Game → ℕ → ℕ) (g h : Game) → g ≡ h → (values row out : List ℕ) → ((s : ℕ) → s < g .states → getD values s 0 ≡ F g s)
-    → out ≡ fill (g .states) (λ s. getD values s 0) row → out ≡ fill (h .states) (F h) row
-written F g h q values row out places e = e ∙ fill-cong (g .states) (λ s. getD values s 0) (F g) row places ∙ rw q
+module _ {g : Game} {n m objective : ℕ} {turn starts from to block low up : List ℕ} (f : Finished g n m objective turn starts from to block low up) where
+  -- how many states there are, and how long the rows of the last round
+  pub few : n ≤ maxStates
+  few = omega (arith, f .states-is, f .worked .accepted .few-states)
 
--- the places of a row that was filled
-pub filled : (n : ℕ) (f : ℕ → ℕ) (values : List ℕ) → values ≡ fill n f (zeros maxStates) → (s : ℕ) → s < n → getD values s 0 ≡ f s
-filled n f values e s l = ap (λ (r : List ℕ). getD r s 0) e ∙ fill-at n f (zeros maxStates) s l
+  pub lower-long : n ≤ length low
+  lower-long = omega (arith, f .states-is, f .worked .lower-long)
+
+  pub upper-long : n ≤ length up
+  upper-long = omega (arith, f .states-is, f .worked .upper-long)
+
+  -- what the plan is worked out from
+  pub planning : Planning g m objective turn from to low up
+  planning = record {
+    moves-is = f .moves-is;
+    objective-is = f .objective-is;
+    turn-is = subst (λ (k : ℕ). Holds k turn (turnAt g)) (sym (f .states-is)) (f .turn-is);
+    from-is = f .from-is;
+    to-is = f .to-is;
+    worked = f .worked;
+  }
+
+  -- the places of the marks that were worked out
+  pub marks-are : (marks : List ℕ) → marks ≡ fill n (λ s. markNo objective (getD low s 0) (getD up s 0)) (zeros maxStates) → (s : ℕ) → s < g .states → getD marks s 0 ≡ mark g s
+  marks-are marks e s l =
+      ap (λ (r : List ℕ). getD r s 0) e ∙ fill-at n _ (zeros maxStates) s (omega (arith, f .states-is)) ∙ mark-is (f .worked) objective (f .objective-is) s l
+
+  -- what is decided by marks is what the game's word says
+  pub decided-word : (marks : List ℕ) → ((s : ℕ) → s < g .states → getD marks s 0 ≡ mark g s) → decisionBy n starts marks ≡ decisionOf (word g) g
+  decided-word marks are =
+      subst (λ (k : ℕ). decisionBy k starts marks ≡ decisionOf (word g) g) (f .states-is)
+      (decision-is g starts marks (λ s l. f .starts-is .cell s (omega (arith, f .states-is))) are)
+
+  -- a lent row, written from a row whose places are F's
+  pub written : (F : ℕ → ℕ) (values row out : List ℕ) → ((s : ℕ) → s < g .states → getD values s 0 ≡ F s)
+      → out ≡ fill n (λ s. getD values s 0) row → out ≡ fill (g .states) F row
+  written F values row out places e =
+      e ∙ fill-cong n (λ s. getD values s 0) F row (λ s l. places s (omega (arith, f .states-is))) ∙ ap (λ (k : ℕ). fill k F row) (sym (f .states-is))
 
 -- an accepted file and rows that are long enough: what was worked out is handed back
 pub handed : (f marks blocks moves : List ℕ) (allowance : ℕ) → 0 ≡ solveFault f marks blocks moves → (g : Game) → g ≡ gameOf f

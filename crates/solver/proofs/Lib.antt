@@ -1,8 +1,5 @@
-pub mod Rounds
-pub mod Runs
-pub mod Loop
 pub mod Marks
-pub mod Splits
 pub mod Advice
 pub mod Plans
 pub mod Answers
+pub mod Rowed

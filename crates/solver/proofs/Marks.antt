@@ -1,70 +1,50 @@
 -- What the rows at work say in 01's words: the marks, and the decision.
-use mathlib.Core.Path.{_≡_, refl, sym, ap, _∙_}
+use mathlib.Core.Path.{_≡_, refl, sym, ap, subst, _∙_}
 use mathlib.Core.Bool.{Bool, true, false, not, _&&_, cond, true≢false}
 use mathlib.Core.List.{List}
 use Prim.Native.Nat.{ℕ, _<_}
+use native.Mathlib.Nat.{le-refl}
 use lib.ListN.{getD}
-use lib.Dec.{eqb, leb, eqb→eq}
+use lib.Dec.{eqb, leb}
 use borrow.Author.Tests.{eq-eqb, ne-eqb}
-use Rattle.arena.specs.Sets.{Set, least}
+use Rattle.arena.specs.Sets.{Set, some, least}
+use Rattle.arena.specs.Game.{Game as Arena}
 use Rattle.arena.specs.Win.{Goal, toReach, toStay}
 use Rattle.arena.proofs.Tests.{not-not, is-true, holds}
-use Rattle.arena.proofs.Least.{least-none, least-one, least-cong}
-use Rattle.game.specs.Limits.{maxStates}
-use Rattle.game.specs.Rows.{fill, zeros}
-use Rattle.game.specs.Game.{stateNo, blockAt, initials, targets}
+use Rattle.arena.proofs.Least.{least-none, least-done, least-cong}
+use Rattle.game.specs.Game.{stateNo, marksAt, blockAt, initials, targets}
 use Rattle.game.specs.Arena.{goalOf, arenaOf}
 use Rattle.game.specs.declared.Game.{Game}
-use Rattle.game.proofs.Rows.{fill-at, fill-cong}
 use Rattle.blocks.specs.Round.{sure, possible}
-use Rattle.blocks.specs.Hunt.{hunter, prey, lower, upper}
+use Rattle.blocks.specs.Hunt.{hunter, prey, insideStep, lower, upper}
 use Rattle.blocks.proofs.Sound.{sure-possible}
 use Rattle.blocks.proofs.Hunt.{lower-upper, sure-reach, possible-reach, sure-stay, possible-stay}
-use Rattle.rounds.specs.Stamp.{isIn}
-use Rattle.rounds.proofs.Stamp.{passes-set}
-use Rattle.solver.specs.Run.{sureStates, possibleStates, word}
+use Rattle.growth.specs.Stamp.{isIn}
+use Rattle.growth.proofs.Stamp.{stamp-grow}
+use Rattle.runs.specs.Run.{sureStates, possibleStates, YES, NO, OPEN, word, namedStart}
+use Rattle.runs.specs.Work.{huntingSide, preyStates, lowerStates, upperStates}
 use Rattle.solver.specs.Plan.{mark}
-use Rattle.solver.specs.Solve.{namedStart}
-use Rattle.solver.specs.Work.{markNo, preyStates, lowerStates, upperStates, passRow, lowerRow, upperRow, markRow, lowestStart, decisionBy, decisionOf}
+use Rattle.solver.specs.Work.{markNo, passOf, Worked, lowestStart, decisionBy, decisionOf}
 use Rattle.solver.specs.declared.Decision.the-variants.{Yes, No, Open}
-
--- ## The rows of passes say the hunter's sets
-
-module _ (g : Game) where
-  pub in-lower : (s : ℕ) → s < g .states → isIn (lowerRow g) s ≡ lowerStates g s
-  unfolding passRow lower arenaOf
-  in-lower s l = passes-set (g .states) _ (preyStates g) (zeros maxStates) (g .states) s l
-
-  pub in-upper : (s : ℕ) → s < g .states → isIn (upperRow g) s ≡ upperStates g s
-  unfolding passRow upper arenaOf
-  in-upper s l = passes-set (g .states) _ (preyStates g) (zeros maxStates) (g .states) s l
-
-  -- what is surely brought about may be
-  pub surely-maybe : (s : ℕ) → s < g .states → lowerStates g s ≡ true → upperStates g s ≡ true
-  unfolding arenaOf
-  surely-maybe s l e = is-true _ (lower-upper (arenaOf g) (blockAt g) _ (preyStates g) s l (holds _ e))
-
--- a place that is 0 is that of a state outside
-zero-out : (v : ℕ) (b : Bool) → not (eqb v 0) ≡ b → eqb v 0 ≡ not b
-zero-out v b e = sym (not-not (eqb v 0)) ∙ ap not e
 
 -- ## Marks
 
 -- the mark of a state by the hunter's sets
-pub mark-by : (g : Game) (objective : ℕ) → g .objective ≡ objective → (lo up : Bool) (s : ℕ)
-    → lowerStates g s ≡ lo → upperStates g s ≡ up → (lo ≡ true → up ≡ true)
-    → cond (not lo) (cond (not up) (cond (eqb objective 1) 0 2) 1) (cond (eqb objective 1) 2 0) ≡ mark g s
-unfolding mark
-mark-by g objective e lo up s p q sub = go (eqb objective 1) refl
+mark-by : (g : Game) (s : ℕ) → s < g .states
+    → cond (not (lowerStates g s)) (cond (not (upperStates g s)) (cond (eqb (g .objective) 1) 0 2) 1) (cond (eqb (g .objective) 1) 2 0) ≡ mark g s
+unfolding mark arenaOf
+mark-by g s l =
+    go (eqb (g .objective) 1)
+    (λ e. is-true (upperStates g s) (lower-upper G B (huntingSide g) (preyStates g) s l (holds (lowerStates g s) e)))
   where
+    G : Arena
+    G = arenaOf g
+
+    B : ℕ → ℕ
+    B = blockAt g
+
     A : Set
     A = targets g
-
-    reaching : eqb objective 1 ≡ true → goalOf (g .objective) ≡ toReach
-    reaching h = rw (e, h)
-
-    staying : eqb objective 1 ≡ false → goalOf (g .objective) ≡ toStay
-    staying h = rw (e, h)
 
     one-way : (lo up : Bool) → _≡_ {A = ℕ} (cond (not lo) (cond (not up) 0 1) 2) (cond lo 2 (cond up 1 0))
     one-way true up = refl
@@ -77,40 +57,49 @@ mark-by g objective e lo up s p q sub = go (eqb objective 1) refl
     other-way false true h = refl
     other-way false false h = refl
 
-    go : (b : Bool) → eqb objective 1 ≡ b
-        → _≡_ {A = ℕ} (cond (not lo) (cond (not up) (cond (eqb objective 1) 0 2) 1) (cond (eqb objective 1) 2 0)) (cond (sureStates g s) 2 (cond (possibleStates g s) 1 0))
-    go true h =
-        let G = arenaOf g in
-        let w : goalOf (g .objective) ≡ toReach = reaching h in
-        let a : sureStates g s ≡ lo = ap (λ (o : Goal). sure G (blockAt g) o A s) w ∙ ap (λ (X : Set). X s) (sure-reach G (blockAt g) A) ∙ sym (ap (λ (o : Goal). lower G (blockAt g) (hunter o) (prey o A) s) w) ∙ p in
-        let b : possibleStates g s ≡ up = ap (λ (o : Goal). possible G (blockAt g) o A s) w ∙ ap (λ (X : Set). X s) (possible-reach G (blockAt g) A) ∙ sym (ap (λ (o : Goal). upper G (blockAt g) (hunter o) (prey o A) s) w) ∙ q in
-        rw (h, a, b) (one-way lo up)
-    go false h =
-        let G = arenaOf g in
-        let w : goalOf (g .objective) ≡ toStay = staying h in
-        let a : sureStates g s ≡ not up = ap (λ (o : Goal). sure G (blockAt g) o A s) w ∙ ap (λ (X : Set). X s) (sure-stay G (blockAt g) A) ∙ ap not (sym (ap (λ (o : Goal). upper G (blockAt g) (hunter o) (prey o A) s) w) ∙ q) in
-        let b : possibleStates g s ≡ not lo = ap (λ (o : Goal). possible G (blockAt g) o A s) w ∙ ap (λ (X : Set). X s) (possible-stay G (blockAt g) A) ∙ ap not (sym (ap (λ (o : Goal). lower G (blockAt g) (hunter o) (prey o A) s) w) ∙ p) in
-        rw (h, a, b) (other-way lo up sub)
+    -- by the goal of the game: reach where the objective is 1, and stay otherwise
+    goal : Bool → Goal
+    goal b = cond b toReach toStay
 
-module _ (g : Game) where
+    low : Goal → Bool
+    low o = lower G B (hunter o) (prey o A) s
+
+    high : Goal → Bool
+    high o = upper G B (hunter o) (prey o A) s
+
+    go : (b : Bool) → (low (goal b) ≡ true → high (goal b) ≡ true)
+        → _≡_ {A = ℕ} (cond (not (low (goal b))) (cond (not (high (goal b))) (cond b 0 2) 1) (cond b 2 0)) (cond (sure G B (goal b) A s) 2 (cond (possible G B (goal b) A s) 1 0))
+    go true h = rw (sure-reach G B A, possible-reach G B A) (one-way (low toReach) (high toReach))
+    go false h = rw (sure-stay G B A, possible-stay G B A) (other-way (low toStay) (high toStay) h)
+
+-- a place that is 0 is that of a state outside
+zero-out : (v : ℕ) (b : Bool) → not (eqb v 0) ≡ b → eqb v 0 ≡ not b
+zero-out v b e = sym (not-not (eqb v 0)) ∙ ap not e
+
+module _ {g : Game} {low up : List ℕ} (w : Worked g low up) where
+  -- the row of passes says what the hunter surely brings about
+  in-lower : (s : ℕ) → s < g .states → isIn low s ≡ lowerStates g s
+  unfolding passOf lower arenaOf
+  in-lower s l =
+      ap (λ (v : ℕ). not (eqb v 0)) (w .lower-is s l)
+      ∙ ap (λ (X : Set). X s) (stamp-grow (insideStep (arenaOf g) (blockAt g) (huntingSide g)) (preyStates g) (g .states))
+
+  -- no pass in the upper row: the hunter may not bring the play there
+  pub out-upper : (s : ℕ) → s < g .states → eqb (getD up s 0) 0 ≡ not (upperStates g s)
+  out-upper s l = zero-out (getD up s 0) (upperStates g s) (w .upper-in s l)
+
   -- the mark that the code works out is 01's
-  pub mark-is : (s : ℕ) → s < g .states → markNo (g .objective) (getD (lowerRow g) s 0) (getD (upperRow g) s 0) ≡ mark g s
+  pub mark-is : (objective : ℕ) → g .objective ≡ objective → (s : ℕ) → s < g .states → markNo objective (getD low s 0) (getD up s 0) ≡ mark g s
   unfolding markNo
-  mark-is s l =
-      rw (zero-out (getD (lowerRow g) s 0) (lowerStates g s) (in-lower g s l), zero-out (getD (upperRow g) s 0) (upperStates g s) (in-upper g s l))
-      (mark-by g (g .objective) refl (lowerStates g s) (upperStates g s) s refl refl (surely-maybe g s l))
-
-  -- the row of marks, from what calls gave
-  pub marks-are : (lower upper marks : List ℕ) → lower ≡ lowerRow g → upper ≡ upperRow g
-      → marks ≡ fill (g .states) (λ s. markNo (g .objective) (getD lower s 0) (getD upper s 0)) (zeros maxStates) → marks ≡ markRow g
-  unfolding markRow
-  marks-are lower upper marks p q r = r ∙ rw (p, q) (fill-cong (g .states) _ _ (zeros maxStates) mark-is)
+  mark-is objective e s l =
+      subst (λ (o : ℕ). cond (eqb (getD low s 0) 0) (cond (eqb (getD up s 0) 0) (cond (eqb o 1) 0 2) 1) (cond (eqb o 1) 2 0) ≡ mark g s) e
+      (rw (zero-out (getD low s 0) (lowerStates g s) (in-lower s l), out-upper s l) (mark-by g s l))
 
 -- ## The decision
 
 module _ (g : Game) where
   -- at least open is possible
-  pub mark-possible : (s : ℕ) → s < g .states → leb 1 (mark g s) ≡ possibleStates g s
+  mark-possible : (s : ℕ) → s < g .states → leb 1 (mark g s) ≡ possibleStates g s
   unfolding mark arenaOf
   mark-possible s l =
       go (sureStates g s) (possibleStates g s)
@@ -123,7 +112,7 @@ module _ (g : Game) where
       go false false h = refl
 
   -- at least sure is sure
-  pub mark-sure : (s : ℕ) → leb 2 (mark g s) ≡ sureStates g s
+  mark-sure : (s : ℕ) → leb 2 (mark g s) ≡ sureStates g s
   unfolding mark
   mark-sure s = go (sureStates g s) (possibleStates g s)
     where
@@ -132,72 +121,38 @@ module _ (g : Game) where
       go false true = refl
       go false false = refl
 
--- the initial states that a search by marks looks for
-marked-start : (g : Game) (marks : List ℕ) → marks ≡ markRow g → (k : ℕ) (X : Set) → ((s : ℕ) → s < g .states → leb k (mark g s) ≡ X s)
-    → (s : ℕ) → s < g .states → (initials g s && leb k (getD marks s 0)) ≡ (initials g s && X s)
-unfolding markRow
-marked-start g marks e k X h s l = ap (λ (b : Bool). initials g s && b) (ap (λ (m : List ℕ). leb k (getD m s 0)) e ∙ ap (leb k) (fill-at (g .states) (mark g) (zeros maxStates) s l) ∙ h s l)
+-- the lowest member below n is n where there is none
+least-told : (n : ℕ) (X : Set) → eqb (least n X) n ≡ not (some n X)
+least-told n X = go (some n X) refl
+  where
+    go : (b : Bool) → some n X ≡ b → eqb (least n X) n ≡ not b
+    go true e = ne-eqb (least n X) n (λ h. true≢false (sym e ∙ least-none n X h))
+    go false e = eq-eqb (least n X) n (sym (least-done n n X e (le-refl n) (le-refl n)))
 
-module _ (g : Game) (marks : List ℕ) (marks-is : marks ≡ markRow g) where
-  possible-start : Set
-  possible-start s = initials g s && possibleStates g s
-
-  sure-start : Set
-  sure-start s = initials g s && sureStates g s
-
-  -- what the two searches find
-  maybe : (r : ℕ) → r ≡ least (g .states) (λ s. initials g s && leb 1 (getD marks s 0)) → r ≡ least (g .states) possible-start
-  unfolding possible-start
-  maybe r e = e ∙ least-cong (g .states) _ _ (marked-start g marks marks-is 1 (possibleStates g) (mark-possible g))
-
-  surely : (r : ℕ) → r ≡ least (g .states) (λ s. initials g s && leb 2 (getD marks s 0)) → r ≡ least (g .states) sure-start
-  unfolding sure-start
-  surely r e = e ∙ least-cong (g .states) _ _ (marked-start g marks marks-is 2 (sureStates g) (λ s l. mark-sure g s))
-
-  module _ (r : ℕ) (p : r ≡ least (g .states) (λ s. initials g s && leb 1 (getD marks s 0))) where
-    -- no initial state is possible
-    word-no : r ≡ g .states → No ≡ decisionOf (word g) g
-    unfolding word possible-start
-    word-no e = rw (least-none (g .states) possible-start (sym (maybe r p) ∙ e)) refl
-
-    module _ (v : ℕ) (q : v ≡ least (g .states) (λ s. initials g s && leb 2 (getD marks s 0))) (some-possible : r ≡ g .states → ⊥) where
-      -- some is possible and none sure
-      word-open : v ≡ g .states → Open ≡ decisionOf (word g) g
-      unfolding word possible-start sure-start
-      word-open e =
-          rw (
-            least-one (g .states) possible-start (λ h. some-possible (maybe r p ∙ h)),
-            least-none (g .states) sure-start (sym (surely v q) ∙ e),
-          ) refl
-
-      -- some is sure, and v is the lowest such
-      word-yes : (v ≡ g .states → ⊥) → Yes (stateNo v) ≡ decisionOf (word g) g
-      unfolding word namedStart possible-start sure-start
-      word-yes ne =
-          rw (
-            least-one (g .states) possible-start (λ h. some-possible (maybe r p ∙ h)),
-            least-one (g .states) sure-start (λ h. ne (surely v q ∙ h)),
-          ) (ap (λ (n : ℕ). Yes (stateNo n)) (surely v q))
+module _ (g : Game) (starts marks : List ℕ) (starts-are : (s : ℕ) → s < g .states → getD starts s 0 ≡ marksAt g s)
+    (marks-are : (s : ℕ) → s < g .states → getD marks s 0 ≡ mark g s) where
+  -- what a search by marks finds
+  start-found : (k : ℕ) (X : Set) → ((s : ℕ) → s < g .states → leb k (mark g s) ≡ X s)
+      → lowestStart (g .states) starts marks k ≡ least (g .states) (λ s. initials g s && X s)
+  start-found k X h = least-cong (g .states) _ _ (λ s l. rw (starts-are s l, marks-are s l, h s l) refl)
 
   -- what a round says by its marks is what its word says
-  pub decision-is : decisionBy (g .states) (g .marks) marks ≡ decisionOf (word g) g
-  unfolding decisionBy
-  decision-is = go (eqb maybe-start (g .states)) refl (eqb surely-start (g .states)) refl
+  pub decision-is : decisionBy (g .states) starts marks ≡ decisionOf (word g) g
+  unfolding decisionBy word namedStart
+  decision-is =
+      rw (start-found 1 (possibleStates g) (mark-possible g), start-found 2 (sureStates g) (λ s _. mark-sure g s))
+      (rw (least-told (g .states) maybe, least-told (g .states) surely) (go (some (g .states) maybe) (some (g .states) surely)))
     where
-      maybe-start : ℕ
-      maybe-start = lowestStart (g .states) (g .marks) marks 1
+      maybe : Set
+      maybe s = initials g s && possibleStates g s
 
-      surely-start : ℕ
-      surely-start = lowestStart (g .states) (g .marks) marks 2
+      surely : Set
+      surely s = initials g s && sureStates g s
 
-      other : (a b : ℕ) → eqb a b ≡ false → a ≡ b → ⊥
-      other a b p e = true≢false (sym (eq-eqb a b e) ∙ p)
-
-      go : (x : Bool) → eqb maybe-start (g .states) ≡ x → (y : Bool) → eqb surely-start (g .states) ≡ y
-          → cond x No (cond y Open (Yes (stateNo surely-start))) ≡ decisionOf (word g) g
-      go true p y q = word-no maybe-start refl (eqb→eq _ _ (rw p tt))
-      go false p true q = word-open maybe-start refl surely-start refl (other _ _ p) (eqb→eq _ _ (rw q tt))
-      go false p false q = word-yes maybe-start refl surely-start refl (other _ _ p) (other _ _ q)
+      go : (a b : Bool) → cond (not a) No (cond (not b) Open (Yes (stateNo (least (g .states) surely)))) ≡ decisionOf (cond (not a) NO (cond b YES OPEN)) g
+      go false b = refl
+      go true true = refl
+      go true false = refl
 
 -- ## The decision, from what two searches gave
 

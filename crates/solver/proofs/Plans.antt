@@ -6,7 +6,7 @@ use mathlib.Core.Logic.{⊎-elim}
 use Prim.Native.Nat.{ℕ, zero, suc, _≤_, _<_}
 use native.Mathlib.Nat.{le-refl}
 use native.Mathlib.Omega.{arith}
-use lib.ListN.{getD}
+use lib.ListN.{length, getD}
 use lib.Dec.{T, eqb, ltb, eqb·suc-zero}
 use borrow.Author.Tests.{le-ltb}
 use Rattle.arena.specs.Sets.{Set, compl, some, least}
@@ -17,26 +17,23 @@ use Rattle.arena.proofs.Tests.{not-not, holds, fails}
 use Rattle.arena.proofs.Loops.{le-or-lt, some-cong, some-none}
 use Rattle.arena.proofs.Least.{least-cong}
 use Rattle.arena.proofs.Passes.{rank-le}
-use Rattle.game.specs.Limits.{maxStates}
-use Rattle.game.specs.Rows.{zeros}
-use Rattle.game.specs.Game.{knownTurn, blockAt, turnAt, targets, hasMove}
+use Rattle.game.specs.Game.{knownTurn, blockAt, turnAt, fromAt, toAt, targets, hasMove}
 use Rattle.game.specs.Arena.{sideOf, goalOf, arenaOf}
-use Rattle.game.specs.Accepted.{Accepted}
 use Rattle.game.specs.declared.StateNo.{StateNo}
 use Rattle.game.specs.declared.Game.{Game}
-use Rattle.game.proofs.Rows.{fill-at}
 use Rattle.game.proofs.Turns.{same-turn, other-turn}
 use Rattle.blocks.specs.Round.{sure, possible}
 use Rattle.blocks.specs.Hunt.{hunter, insideStep, lower}
 use Rattle.blocks.proofs.Hunt.{sure-reach, possible-reach, sure-stay, never-stay, entered-rank, left-rank}
-use Rattle.rounds.proofs.Stamp.{stamp-rank}
-use Rattle.solver.specs.Run.{Word, YES, NO, OPEN, word}
+use Rattle.growth.proofs.Stamp.{stamp-rank}
+use Rattle.runs.specs.Run.{Word, YES, NO, OPEN, word}
 use Rattle.solver.specs.Plan.{noMove, successors, advice, rule, planned}
-use Rattle.solver.specs.Work.{goodMove, lowestGood, huntingSide, preyStates, lowerStates, upperStates, passRow, lowerRow, upperRow, chaseRank, chaseRule, fleeRule, winnerRule, decisionOf}
+use Rattle.runs.specs.Work.{huntingSide, preyStates, lowerStates, upperStates}
+use Rattle.solver.specs.Work.{goodMove, lowestGood, Walk, passOf, Worked, Planning, chaseRank, chaseRule, fleeRule, winnerRule, decisionOf}
 use Rattle.solver.specs.declared.Decision.{Decision}
 use Rattle.solver.specs.declared.Decision.the-variants.{Yes, No, Open}
-use Rattle.solver.proofs.Advice.{walked}
-use Rattle.solver.proofs.Marks.{in-upper}
+use Rattle.solver.proofs.Advice.{good-alike, walked}
+use Rattle.solver.proofs.Marks.{out-upper}
 
 -- ## 01's rules in the hunter's view
 
@@ -121,14 +118,11 @@ advice-as g i told X Y s agree none = go (mine (arenaOf g) i s) (told s) refl
 
 -- ## Good moves by the rows of passes
 
-module _ (g : Game) where
-  goal : Goal
-  goal = goalOf (g .objective)
-
+module _ {g : Game} {low up : List ℕ} (w : Worked g low up) where
   -- the pass that stands in the lower row
-  lower-pass : (t : ℕ) → t < g .states → getD (lowerRow g) t 0 ≡ cond (lowerStates g t) (suc (chaseRank g (goalOf (g .objective)) t)) 0
-  unfolding passRow lower arenaOf
-  lower-pass t l = fill-at (g .states) _ (zeros maxStates) t l ∙ stamp-rank (insideStep (arenaOf g) (blockAt g) (huntingSide g)) (preyStates g) (g .states) (g .states) t (le-refl (g .states))
+  lower-pass : (t : ℕ) → t < g .states → getD low t 0 ≡ cond (lowerStates g t) (suc (chaseRank g (goalOf (g .objective)) t)) 0
+  unfolding passOf lower arenaOf
+  lower-pass t l = w .lower-is t l ∙ stamp-rank (insideStep (arenaOf g) (blockAt g) (huntingSide g)) (preyStates g) (g .states) (g .states) t (le-refl (g .states))
 
   -- a state of the lower set has a rank of at most the number of states, and no other has
   rank-in : (t : ℕ) → lowerStates g t ≡ true → chaseRank g (goalOf (g .objective)) t ≤ g .states
@@ -152,7 +146,7 @@ module _ (g : Game) where
 
   -- one who hunts, told to move: earlier is good
   chase-told : (s t : ℕ) → s < g .states → t < g .states → (lowerStates g s && not (preyStates g s)) ≡ true
-      → ltb (suc (chaseRank g (goalOf (g .objective)) t)) (suc (chaseRank g (goalOf (g .objective)) s)) ≡ goodMove true (getD (lowerRow g) s 0) (getD (lowerRow g) t 0)
+      → ltb (suc (chaseRank g (goalOf (g .objective)) t)) (suc (chaseRank g (goalOf (g .objective)) s)) ≡ goodMove true (getD low s 0) (getD low t 0)
   unfolding goodMove
   chase-told s t ls lt e = rw (lower-pass s ls, lower-pass t lt) (go (lowerStates g s) (lowerStates g t) refl refl e)
     where
@@ -169,10 +163,9 @@ module _ (g : Game) where
       go true false p q h = let a = rank-in s p in let b = rank-out t q in le-ltb (suc rt) (suc rs) (omega arith)
 
   -- one who hunts, not told to move: nothing is good
-  chase-idle : (s t : ℕ) → s < g .states → t < g .states → (lowerStates g s && not (preyStates g s)) ≡ false
-      → goodMove true (getD (lowerRow g) s 0) (getD (lowerRow g) t 0) ≡ false
+  chase-idle : (s t : ℕ) → s < g .states → (lowerStates g s && not (preyStates g s)) ≡ false → goodMove true (getD low s 0) (getD low t 0) ≡ false
   unfolding goodMove
-  chase-idle s t ls lt e = rw (lower-pass s ls) (go (lowerStates g s) (preyStates g s) refl e (getD (lowerRow g) t 0))
+  chase-idle s t ls e = rw (lower-pass s ls) (go (lowerStates g s) (preyStates g s) refl e (getD low t 0))
     where
       rs : ℕ
       rs = chaseRank g (goalOf (g .objective)) s
@@ -187,63 +180,86 @@ module _ (g : Game) where
       go false y q h v = rw (le-ltb v 0 (omega arith)) (and-false (not (eqb v 0)))
 
   -- one who is hunted: from outside to outside is good
-  flee-good : (s t : ℕ) → s < g .states → t < g .states → goodMove false (getD (upperRow g) s 0) (getD (upperRow g) t 0) ≡ (not (upperStates g s) && not (upperStates g t))
+  flee-good : (s t : ℕ) → s < g .states → t < g .states → goodMove false (getD up s 0) (getD up t 0) ≡ (not (upperStates g s) && not (upperStates g t))
   unfolding goodMove
-  flee-good s t ls lt = ap₂ _&&_ (out s ls) (out t lt)
-    where
-      out : (t : ℕ) → t < g .states → eqb (getD (upperRow g) t 0) 0 ≡ not (upperStates g t)
-      out t l = sym (not-not (eqb (getD (upperRow g) t 0) 0)) ∙ ap not (in-upper g t l)
+  flee-good s t ls lt = ap₂ _&&_ (out-upper w s ls) (out-upper w t lt)
 
 -- ## What the walk leaves is the winner's rule
 
-module _ (g : Game) (ok : Accepted g) (side : ℕ) (known : T (knownTurn side)) (s : ℕ) (l : s < g .states) where
+module _ {g : Game} {low up : List ℕ} (w : Worked g low up) (side : ℕ) (known : T (knownTurn side)) (s : ℕ) (l : s < g .states) where
   -- whose turn it is, by the numbers
-  turn-is : mine (arenaOf g) (sideOf side) s ≡ eqb (turnAt g s) side
+  turn-told : mine (arenaOf g) (sideOf side) s ≡ eqb (turnAt g s) side
   unfolding arenaOf
-  turn-is = same-turn side (turnAt g s) known (ok .turn-known s l)
+  turn-told = same-turn side (turnAt g s) known (w .accepted .turn-known s l)
 
-  pub chased : sideOf side ≡ huntingSide g → lowestGood g side true (λ t. getD (lowerRow g) t 0) (g .moves) s ≡ chaseRule g (goalOf (g .objective)) s
+  chased : sideOf side ≡ huntingSide g → lowestGood side true (turnAt g) (fromAt g) (toAt g) (λ t. getD low t 0) (g .moves) s ≡ chaseRule g (goalOf (g .objective)) s
   unfolding chaseRule
   chased e =
-      let Y : Set = λ t. goodMove true (getD (lowerRow g) s 0) (getD (lowerRow g) t 0) in
-      walked g ok side true (λ t. getD (lowerRow g) t 0) s Y (λ t. refl)
-      ∙ ap (λ (b : Bool). cond (b && some (g .states) (successors g s Y)) (least (g .states) (successors g s Y)) noMove) (sym turn-is)
+      let Y : Set = λ t. goodMove true (getD low s 0) (getD low t 0) in
+      walked g (w .accepted) side true (λ t. getD low t 0) s Y (λ t. refl)
+      ∙ ap (λ (b : Bool). cond (b && some (g .states) (successors g s Y)) (least (g .states) (successors g s Y)) noMove) (sym turn-told)
       ∙ sym (ap (λ (i : Side). advice g i (λ t. lowerStates g t && not (preyStates g t)) (λ t. ltb (suc (chaseRank g (goalOf (g .objective)) t)) (suc (chaseRank g (goalOf (g .objective)) s))) s) (sym e)
-      ∙ advice-as g (sideOf side) (λ t. lowerStates g t && not (preyStates g t)) _ Y s (λ h t m. chase-told g s t l m h) (λ h t m. chase-idle g s t l m h))
+      ∙ advice-as g (sideOf side) (λ t. lowerStates g t && not (preyStates g t)) _ Y s (λ h t m. chase-told w s t l m h) (λ h t m. chase-idle w s t l h))
 
-  pub fled : sideOf side ≡ other (huntingSide g) → lowestGood g side false (λ t. getD (upperRow g) t 0) (g .moves) s ≡ fleeRule g (goalOf (g .objective)) s
+  fled : sideOf side ≡ other (huntingSide g) → lowestGood side false (turnAt g) (fromAt g) (toAt g) (λ t. getD up t 0) (g .moves) s ≡ fleeRule g (goalOf (g .objective)) s
   unfolding fleeRule
   fled e =
-      let Y : Set = λ t. goodMove false (getD (upperRow g) s 0) (getD (upperRow g) t 0) in
-      walked g ok side false (λ t. getD (upperRow g) t 0) s Y (λ t. refl)
-      ∙ ap (λ (b : Bool). cond (b && some (g .states) (successors g s Y)) (least (g .states) (successors g s Y)) noMove) (sym turn-is)
+      let Y : Set = λ t. goodMove false (getD up s 0) (getD up t 0) in
+      walked g (w .accepted) side false (λ t. getD up t 0) s Y (λ t. refl)
+      ∙ ap (λ (b : Bool). cond (b && some (g .states) (successors g s Y)) (least (g .states) (successors g s Y)) noMove) (sym turn-told)
       ∙ sym (ap (λ (i : Side). advice g i (compl (upperStates g)) (compl (upperStates g)) s) (sym e)
       ∙ advice-as g (sideOf side) (compl (upperStates g)) (compl (upperStates g)) Y s
-      (λ h t m. sym (flee-good g s t l m ∙ rw h refl))
-      (λ h t m. flee-good g s t l m ∙ rw h refl))
+      (λ h t m. sym (flee-good w s t l m ∙ rw h refl))
+      (λ h t m. flee-good w s t l m ∙ rw h refl))
 
-module _ (g : Game) (ok : Accepted g) (side : ℕ) (known : T (knownTurn side)) (s : ℕ) (l : s < g .states) (row : List ℕ) (v : ℕ) where
-  -- the winner hunts: what the walk over the lower row left
-  pub winner-chases : row ≡ lowerRow g → sideOf side ≡ huntingSide g → v ≡ lowestGood g side true (λ t. getD row t 0) (g .moves) s → v ≡ winnerRule g (sideOf side) s
-  winner-chases r e q =
-      q ∙ ap (λ (x : List ℕ). lowestGood g side true (λ t. getD x t 0) (g .moves) s) r ∙ chased g ok side known s l e ∙ rw e (go (huntingSide g))
-    where
-      go : (i : Side) → chaseRule g (goalOf (g .objective)) s ≡ cond (same i i) (chaseRule g (goalOf (g .objective)) s) (fleeRule g (goalOf (g .objective)) s)
-      go one = refl
-      go two = refl
+module _ {g : Game} {m objective : ℕ} {turn from to low up : List ℕ} (p : Planning g m objective turn from to low up) where
+  -- a walk over the moves goes through places that there are
+  pub walk-safe : (row : List ℕ) → g .states ≤ length row → Walk (g .states) m turn from to row
+  walk-safe row long = record {
+    few-states = p .worked .accepted .few-states;
+    froms = record { long = p .from-is .long; below = λ k l. rw (p .from-is .cell k l) (p .worked .accepted .from-state k (omega (arith, p .moves-is))) };
+    tos = record { long = p .to-is .long; below = λ k l. rw (p .to-is .cell k l) (p .worked .accepted .to-state k (omega (arith, p .moves-is))) };
+    turn-long = p .turn-is .long;
+    row-long = long;
+  }
 
-  -- the winner is hunted: what the walk over the upper row left
-  pub winner-flees : row ≡ upperRow g → sideOf side ≡ other (huntingSide g) → v ≡ lowestGood g side false (λ t. getD row t 0) (g .moves) s → v ≡ winnerRule g (sideOf side) s
-  winner-flees r e q =
-      q ∙ ap (λ (x : List ℕ). lowestGood g side false (λ t. getD x t 0) (g .moves) s) r ∙ fled g ok side known s l e ∙ rw e (go (huntingSide g))
-    where
-      go : (i : Side) → fleeRule g (goalOf (g .objective)) s ≡ cond (same (other i) i) (chaseRule g (goalOf (g .objective)) s) (fleeRule g (goalOf (g .objective)) s)
-      go one = refl
-      go two = refl
+  -- the side that hunts, by the objective that is handed over
+  hunts-here : hunter (goalOf objective) ≡ huntingSide g
+  hunts-here = ap (λ (o : ℕ). hunter (goalOf o)) (sym (p .objective-is))
+
+  module _ (side : ℕ) (known : T (knownTurn side)) (s : ℕ) (l : s < g .states) (v : ℕ) where
+    -- a walk over the rows is one over the game's moves
+    walk-is : (chase : Bool) (row : ℕ → ℕ)
+        → lowestGood side chase (λ t. getD turn t 0) (λ k. getD from k 0) (λ k. getD to k 0) row m s ≡ lowestGood side chase (turnAt g) (fromAt g) (toAt g) row (g .moves) s
+    walk-is chase row =
+        good-alike side chase (λ t. getD turn t 0) (λ k. getD from k 0) (λ k. getD to k 0) row (turnAt g) (fromAt g) (toAt g) m s (p .turn-is .cell s l) (p .from-is .cell) (p .to-is .cell)
+        ∙ ap (λ (k : ℕ). lowestGood side chase (turnAt g) (fromAt g) (toAt g) row k s) (sym (p .moves-is))
+
+    -- the winner hunts: what the walk over the lower row left
+    pub winner-chases : sideOf side ≡ hunter (goalOf objective) → v ≡ lowestGood side true (λ t. getD turn t 0) (λ k. getD from k 0) (λ k. getD to k 0) (λ t. getD low t 0) m s
+        → v ≡ winnerRule g (sideOf side) s
+    winner-chases h q =
+        let e = h ∙ hunts-here in
+        q ∙ walk-is true (λ t. getD low t 0) ∙ chased (p .worked) side known s l e ∙ rw e (go (huntingSide g))
+      where
+        go : (i : Side) → chaseRule g (goalOf (g .objective)) s ≡ cond (same i i) (chaseRule g (goalOf (g .objective)) s) (fleeRule g (goalOf (g .objective)) s)
+        go one = refl
+        go two = refl
+
+    -- the winner is hunted: what the walk over the upper row left
+    pub winner-flees : sideOf side ≡ other (hunter (goalOf objective)) → v ≡ lowestGood side false (λ t. getD turn t 0) (λ k. getD from k 0) (λ k. getD to k 0) (λ t. getD up t 0) m s
+        → v ≡ winnerRule g (sideOf side) s
+    winner-flees h q =
+        let e = h ∙ ap other hunts-here in
+        q ∙ walk-is false (λ t. getD up t 0) ∙ fled (p .worked) side known s l e ∙ rw e (go (huntingSide g))
+      where
+        go : (i : Side) → fleeRule g (goalOf (g .objective)) s ≡ cond (same (other i) i) (chaseRule g (goalOf (g .objective)) s) (fleeRule g (goalOf (g .objective)) s)
+        go one = refl
+        go two = refl
 
 -- the side that does not hunt is the hunter's opponent
-pub hunted : (g : Game) (hunts side : ℕ) → sideOf hunts ≡ huntingSide g → T (knownTurn hunts) → T (knownTurn side) → (hunts ≡ side → ⊥) → sideOf side ≡ other (huntingSide g)
-hunted g hunts side e p q ne = other-turn hunts side p q ne ∙ ap other e
+pub hunted : (i : Side) (hunts side : ℕ) → sideOf hunts ≡ i → T (knownTurn hunts) → T (knownTurn side) → (hunts ≡ side → ⊥) → sideOf side ≡ other i
+hunted i hunts side e p q ne = other-turn hunts side p q ne ∙ ap other e
 
 -- ## The plan of a decision
 

@@ -1,4 +1,3 @@
-pub mod Run
 pub mod Plan
 pub mod Solve
 pub mod Work

@@ -9,7 +9,7 @@ use Rattle.game.specs.Game.{blockAt, targets, hasMove}
 use Rattle.game.specs.Arena.{goalOf, arenaOf}
 use Rattle.game.specs.declared.Game.{Game}
 use Rattle.blocks.specs.Round.{enteredSure, leftPossible}
-use Rattle.solver.specs.Run.{sureStates, possibleStates, Word, YES, NO, OPEN}
+use Rattle.runs.specs.Run.{sureStates, possibleStates, Word, YES, NO, OPEN}
 
 -- 01, 'What is handed back': marks (0 never, 1 open, 2 sure)
 unfoldable pub mark : Game → ℕ → ℕ

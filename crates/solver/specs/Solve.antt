@@ -4,15 +4,14 @@ use mathlib.Core.Bool.{_&&_}
 use mathlib.Core.List.{List}
 use lib.ListN.{length}
 use lib.Dec.{leb}
-use Rattle.arena.specs.Sets.{least}
 use Rattle.game.specs.Limits.{maxStates}
 use Rattle.game.specs.Rows.{fill}
-use Rattle.game.specs.Game.{stateNo, blockAt, initials}
+use Rattle.game.specs.Game.{stateNo, blockAt}
 use Rattle.game.specs.declared.Game.{Game}
 use Rattle.file.specs.Fault.{unless, _then_}
 use Rattle.file.specs.Refusals.{refusal}
 use Rattle.decoding.specs.Decode.{gameOf}
-use Rattle.solver.specs.Run.{sureStates, Word, YES, NO, OPEN, word, Run, run}
+use Rattle.runs.specs.Run.{Word, YES, NO, OPEN, word, namedStart, Run, run}
 use Rattle.solver.specs.Plan.{mark, planned}
 use Rattle.solver.specs.declared.Verdict.{Verdict}
 use Rattle.solver.specs.declared.Verdict.the-variants.{Yes, No, Open, Refused}
@@ -22,10 +21,6 @@ unfoldable pub solveFault : List ℕ → List ℕ → List ℕ → List ℕ → 
 solveFault f marks blocks moves =
     unless (leb maxStates (length marks) && leb maxStates (length blocks) && leb maxStates (length moves)) 1
     then refusal f
-
--- 01, 'What is handed back': the lowest-numbered sure initial state
-unfoldable pub namedStart : Game → ℕ
-namedStart g = least (g .states) (λ s. initials g s && sureStates g s)
 
 -- 01, 'What is handed back': YES with the named start and the splits; NO or OPEN with the splits
 abbrev pub said : Word → Game → ℕ → Verdict

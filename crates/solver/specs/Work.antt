@@ -1,31 +1,32 @@
 -- What the rows at work hold, for the contracts of internal functions. Nothing that is promised is stated in these terms;
 -- proofs/ has the laws that tie them to 01's words.
-use Prim.Native.Nat.{ℕ, zero, suc, _+_}
+use Prim.Native.Nat.{ℕ, zero, suc, _≤_, _<_}
 use mathlib.Core.Path.{_≡_}
-use mathlib.Core.Bool.{Bool, true, false, not, _&&_, cond}
+use mathlib.Core.Bool.{Bool, not, _&&_, cond}
 use mathlib.Core.List.{List}
-use lib.ListN.{getD}
-use lib.Dec.{T, eqb, leb, ltb}
-use Rattle.arena.specs.Sets.{Set, compl, least}
+use lib.ListN.{length, getD}
+use lib.Dec.{eqb, leb, ltb, T}
+use Rattle.arena.specs.Sets.{compl, least, bit}
 use Rattle.arena.specs.Game.{Side, other, same}
 use Rattle.arena.specs.Win.{Goal}
 use Rattle.arena.specs.Passes.{rank}
 use Rattle.game.specs.Limits.{maxStates}
-use Rattle.game.specs.Rows.{fill, zeros}
-use Rattle.game.specs.Game.{stateNo, knownTurn, marked, turnAt, blockAt, fromAt, toAt, targets}
-use Rattle.game.specs.Arena.{sideOf, goalOf, arenaOf}
+use Rattle.game.specs.Game.{stateNo, marked, turnAt, marksAt, blockAt, fromAt, toAt, targets, knownTurn}
+use Rattle.game.specs.Arena.{goalOf, arenaOf, sideOf}
 use Rattle.game.specs.Accepted.{Accepted}
 use Rattle.game.specs.declared.Game.{Game}
-use Rattle.blocks.specs.Hunt.{hunter, prey, insideStep, meetsStep, lower, upper}
-use Rattle.rounds.specs.Stamp.{stamp}
-use Rattle.solver.specs.Run.{Word, YES, NO, OPEN, word, Run}
-use Rattle.solver.specs.Plan.{mark, noMove, advice}
-use Rattle.solver.specs.Solve.{namedStart}
+use Rattle.blocks.specs.Hunt.{hunter, prey, insideStep, lower, upper}
+use Rattle.growth.specs.Stamp.{isIn, stamp}
+use Rattle.chains.specs.Lent.{Holds, Keys}
+use Rattle.runs.specs.Work.{huntingSide, preyStates, upperStates}
+use Rattle.runs.specs.Run.{Word, YES, NO, OPEN, namedStart, word, run}
+use Rattle.solver.specs.Plan.{noMove, advice, mark, planned}
 use Rattle.solver.specs.declared.Decision.{Decision}
 use Rattle.solver.specs.declared.Decision.the-variants.{Yes, No, Open}
-use Rattle.solver.specs.declared.Round.{Round}
 use Rattle.solver.specs.declared.Verdict.{Verdict}
 use Rattle.solver.specs.declared.Verdict.the-variants.{Yes as VerdictYes, No as VerdictNo, Open as VerdictOpen}
+use Rattle.solver.specs.Solve.{said}
+use Rattle.game.specs.Rows.{fill}
 
 -- a mark by the passes of the side that hunts: side 1 if the objective is reach
 unfoldable pub markNo : ℕ → ℕ → ℕ → ℕ
@@ -40,61 +41,47 @@ goodMove chase own next = cond chase (not (eqb next 0) && ltb next own) (eqb own
 unfoldable pub lowerOf : ℕ → ℕ → Bool → ℕ
 lowerOf best to taken = cond taken (cond (ltb to best) to best) best
 
--- the lowest good move of state s among the first k moves, if s is the side's
-unfoldable pub lowestGood : Game → ℕ → Bool → (ℕ → ℕ) → ℕ → ℕ → ℕ
-lowestGood g side chase row zero s = noMove
-lowestGood g side chase row (suc k) s =
-    let best = lowestGood g side chase row k s in
-    cond (eqb (fromAt g k) s) (lowerOf best (toAt g k) (eqb (turnAt g s) side && goodMove chase (row s) (row (toAt g k)))) best
+-- the lowest good move of state s among the first k moves, if s is the side's; `turn` and `row` say the turn and the pass of a
+-- state, `from` and `to` what a move leaves and goes to
+unfoldable pub lowestGood : ℕ → Bool → (ℕ → ℕ) → (ℕ → ℕ) → (ℕ → ℕ) → (ℕ → ℕ) → ℕ → ℕ → ℕ
+lowestGood side chase turn from to row zero s = noMove
+lowestGood side chase turn from to row (suc k) s =
+    let best = lowestGood side chase turn from to row k s in
+    cond (eqb (from k) s) (lowerOf best (to k) (eqb (turn s) side && goodMove chase (row s) (row (to k)))) best
+
+-- the rows of a walk over m moves: the states of each move have their places
+pub record Walk (n m : ℕ) (turn from to row : List ℕ) : Type 0 where
+  pub few-states : n ≤ maxStates
+  pub froms : Keys n m from
+  pub tos : Keys n m to
+  pub turn-long : n ≤ length turn
+  pub row-long : n ≤ length row
 
 -- ## Rounds at work
 
--- the goal of a game, as its hunter sees it: who hunts, and where to
-abbrev pub huntingSide : Game → Side
-huntingSide g = hunter (goalOf (g .objective))
+-- the pass in which each state entered what the hunting side surely brings about, 0 where it did not
+unfoldable pub passOf : Game → ℕ → ℕ
+passOf g s = stamp (insideStep (arenaOf g) (blockAt g) (huntingSide g)) (preyStates g) (g .states) s
 
-abbrev pub preyStates : Game → Set
-preyStates g = prey (goalOf (g .objective)) (targets g)
-
--- what the hunting side surely brings about, and what it may
-abbrev pub lowerStates : Game → Set
-lowerStates g = lower (arenaOf g) (blockAt g) (huntingSide g) (preyStates g)
-
-abbrev pub upperStates : Game → Set
-upperStates g = upper (arenaOf g) (blockAt g) (huntingSide g) (preyStates g)
-
--- the pass in which each state entered the one (by whole blocks) and the other (by blocks that meet), 0 where it did not
-unfoldable pub passRow : Game → Bool → List ℕ
-passRow g whole =
-    fill (g .states)
-    (stamp (λ X. cond whole (insideStep (arenaOf g) (blockAt g) (huntingSide g) X) (meetsStep (arenaOf g) (blockAt g) (huntingSide g) X)) (preyStates g) (g .states))
-    (zeros maxStates)
-
-abbrev pub lowerRow : Game → List ℕ
-lowerRow g = passRow g true
-
-abbrev pub upperRow : Game → List ℕ
-upperRow g = passRow g false
-
--- the mark of each state
-unfoldable pub markRow : Game → List ℕ
-markRow g = fill (g .states) (mark g) (zeros maxStates)
-
--- a round that is worked out for an accepted game
-pub record Worked (g : Game) (r : Round) : Type 0 where
+-- the rows of a round that is worked out for an accepted game: the passes of what is surely brought about, and what may be
+pub record Worked (g : Game) (low up : List ℕ) : Type 0 where
   pub accepted : Accepted g
-  pub lower-is : r .lower ≡ lowerRow g
-  pub upper-is : r .upper ≡ upperRow g
-  pub marks-is : r .marks ≡ markRow g
+  pub lower-long : g .states ≤ length low
+  pub upper-long : g .states ≤ length up
+  pub lower-is : (s : ℕ) → s < g .states → getD low s 0 ≡ passOf g s
+  pub upper-in : (s : ℕ) → s < g .states → isIn up s ≡ upperStates g s
 
--- the rows of a round that is open as yet, and the side that hunts
-pub record OpenRound (g : Game) (side : ℕ) (low up : List ℕ) : Type 0 where
-  pub accepted : Accepted g
-  pub hunts : sideOf side ≡ huntingSide g
-  pub turn-known : T (knownTurn side)
-  pub lower-is : low ≡ lowerRow g
-  pub upper-is : up ≡ upperRow g
-  pub undecided : word g ≡ OPEN
+-- the rows of plain numbers that are lent when a run is over, and what they say of its last game
+pub record Finished (g : Game) (n m objective : ℕ) (turn starts from to block low up : List ℕ) : Type 0 where
+  pub states-is : g .states ≡ n
+  pub moves-is : g .moves ≡ m
+  pub objective-is : g .objective ≡ objective
+  pub turn-is : Holds n turn (turnAt g)
+  pub starts-is : Holds n starts (marksAt g)
+  pub from-is : Holds m from (fromAt g)
+  pub to-is : Holds m to (toAt g)
+  pub block-is : Holds n block (blockAt g)
+  pub worked : Worked g low up
 
 -- the lowest-numbered start with at least a mark, n where there is none: `starts` holds the marks of the file, `marks` those of the round
 abbrev pub lowestStart : ℕ → List ℕ → List ℕ → ℕ → ℕ
@@ -118,17 +105,16 @@ saidBy (Yes s) splits = VerdictYes s splits
 saidBy No splits = VerdictNo splits
 saidBy Open splits = VerdictOpen splits
 
--- a decision is open as yet
-abbrev pub openDecision : Decision → Bool
-openDecision (Yes s) = false
-openDecision No = false
-openDecision Open = true
-
--- a run of which some splits were made before
-unfoldable pub after : ℕ → Run → Run
-after made r = record { splits = made + r .splits; last = r .last }
-
 -- ## The plan at work
+
+-- what a plan is worked out from: whose turn each state is, the moves, and the rows of the last round
+pub record Planning (g : Game) (m objective : ℕ) (turn from to low up : List ℕ) : Type 0 where
+  pub moves-is : g .moves ≡ m
+  pub objective-is : g .objective ≡ objective
+  pub turn-is : Holds (g .states) turn (turnAt g)
+  pub from-is : Holds m from (fromAt g)
+  pub to-is : Holds m to (toAt g)
+  pub worked : Worked g low up
 
 module _ (g : Game) (o : Goal) where
   -- the rank of a state for the side that hunts: how many passes after the prey it entered
@@ -151,3 +137,27 @@ module _ (g : Game) (o : Goal) where
 -- the rule of the side that wins
 abbrev pub winnerRule : Game → Side → ℕ → ℕ
 winnerRule g i s = cond (same i (huntingSide g)) (chaseRule g (goalOf (g .objective)) s) (fleeRule g (goalOf (g .objective)) s)
+
+-- ## The rows of a game, made in one place
+
+-- a game taken apart: the side that hunts, the counts, and rows of plain numbers for turns, marks, moves, prey and blocks
+pub record Apart (g : Game) (side n m objective : ℕ) (turn starts from to prey block : List ℕ) : Type 0 where
+  pub accepted : Accepted g
+  pub known : T (knownTurn side)
+  pub hunts : sideOf side ≡ huntingSide g
+  pub states-is : g .states ≡ n
+  pub moves-is : g .moves ≡ m
+  pub objective-is : g .objective ≡ objective
+  pub turn-is : Holds n turn (turnAt g)
+  pub starts-is : Holds n starts (marksAt g)
+  pub from-is : Holds m from (fromAt g)
+  pub to-is : Holds m to (toAt g)
+  pub prey-is : Holds n prey (λ s. bit (preyStates g s))
+  pub block-is : Holds n block (blockAt g)
+
+-- what is handed back of a run of g: the verdict, and the three rows, of which the first places are written
+pub record HandedBack (g : Game) (allowance : ℕ) (verdict : Verdict) (marks₀ marks blocks₀ blocks moves₀ moves : List ℕ) : Type 0 where
+  pub verdict-is : verdict ≡ said (word (run allowance g .last)) (run allowance g .last) (run allowance g .splits)
+  pub marks-are : marks ≡ fill (run allowance g .last .states) (mark (run allowance g .last)) marks₀
+  pub blocks-are : blocks ≡ fill (run allowance g .last .states) (blockAt (run allowance g .last)) blocks₀
+  pub moves-are : moves ≡ fill (run allowance g .last .states) (planned (word (run allowance g .last)) (run allowance g .last)) moves₀

@@ -1,25 +1,28 @@
-// The solver: rounds until a verdict or the end of the allowance, and what is handed back.
-use decoding::Answer;
+// The solver: a run over the game of a file, and what is handed back when it is over.
+use file::first_refusal;
+use file::word_at;
 use game::Game;
 use game::StateNo;
-use rounds::BlockRow;
-use rounds::Border;
 ghost use mathlib.Core.Path.{_≡_};
-ghost use mathlib.Core.Bool.{_&&_};
 ghost use Prim.Native.Nat.{_≤_};
 ghost use lib.ListN.{length};
-ghost use lib.Dec.{ltb};
 ghost use Rattle.game.specs.Limits.{maxStates};
 ghost use Rattle.game.specs.Rows.{fill};
 ghost use Rattle.game.specs.Game.{blockAt};
-ghost use Rattle.game.specs.Accepted.{Accepted};
-ghost use Rattle.solver.specs.Run.{word, splitGame, run};
+ghost use Rattle.game.specs.declared.Game.{Game};
+ghost use Rattle.runs.specs.Run.{word};
 ghost use Rattle.solver.specs.Plan.{mark, planned};
 ghost use Rattle.solver.specs.Solve.{said, solveVerdict, solveMarks, solveBlocks, solveMoves};
-ghost use Rattle.solver.specs.Work.{Worked, OpenRound, decisionBy, openDecision, saidBy};
+ghost use Rattle.solver.specs.Work.{Finished, decisionBy, saidBy, Apart, HandedBack};
+ghost use Rattle.rows.specs.Rows.{Present};
+ghost use Rattle.file.specs.Refusals.{refusal};
+ghost use Rattle.decoding.specs.Decode.{gameOf};
 
 mod plan;
-mod rows;
+mod written;
+
+// A place for each state, and one for the end of the last state's moves.
+const ENDS: usize = 513;
 
 // What the solver says of a file: YES with the named start and the splits made, NO or OPEN with the splits, or the
 // number of a refusal, 1 to 11.
@@ -37,99 +40,23 @@ pub enum Decision {
     Open,
 }
 
-// What a round works out for a game with its present blocks: the passes in which states entered what the hunting side
-// surely brings about and what it may, and the marks.
-pub struct Round {
-    pub lower: [u16; Game::MAX_STATES],
-    pub upper: [u16; Game::MAX_STATES],
-    pub marks: [u16; Game::MAX_STATES],
-}
-
-// The splits made, the game with the blocks of the last round, and that round.
-pub struct Run {
-    pub splits: u16,
-    pub game: Game,
-    pub last: Round,
-}
-
 // No initial state possible, NO; some initial state sure, YES, with the lowest-numbered one; otherwise open as yet.
-fn decide(n: usize, starts: [u8; Game::MAX_STATES], marks: [u16; Game::MAX_STATES]) -> Decision
-    requires { ⌜ n ≤ maxStates ⌝ }
-    ensures { λ r. ⌜ r ≡ decisionBy n starts marks ⌝ }
+fn decide(n: usize, starts: &[u8], marks: &[u16]) -> Decision
+    requires { ⌜ (n ≤ maxStates) × (n ≤ length (now starts)) × (n ≤ length (now marks)) ⌝ }
+    ensures { λ r. ⌜ r ≡ decisionBy n (now (starts .entry)) (now (marks .entry)) ⌝ }
 {
     let none = n as u16;
-    if rows::lowest_start(n, starts, marks, 1) == none {
+    if written::lowest_start(n, starts, marks, 1) == none {
         return Decision::No;
     }
-    let named = rows::lowest_start(n, starts, marks, 2);
+    let named = written::lowest_start(n, starts, marks, 2);
     if named == none {
         return Decision::Open;
     }
     Decision::Yes(StateNo(named))
 }
 
-// A split is to be made: the round is open as yet, and not all allowed splits are made.
-fn goes_on(decision: Decision, made: u16, allowance: u16) -> bool
-    ensures { λ r. ⌜ r ≡ (openDecision decision && ltb made allowance) ⌝ }
-{
-    match decision {
-        Decision::Yes(_) => false,
-        Decision::No => false,
-        Decision::Open => made < allowance,
-    }
-}
-
-// The blocks of the game of an open round, the lowest-numbered border block split.
-fn split_border(
-    game: Game,
-    side: u8,
-    lower: [u16; Game::MAX_STATES],
-    upper: [u16; Game::MAX_STATES],
-) -> BlockRow
-    requires { ⌜ OpenRound game side lower upper ⌝ }
-    ensures { λ r. ⌜ r ≡ splitGame game .block ⌝ }
-{
-    let n = game.states;
-    let blocks = game.block;
-    let known = rounds::forced_step(game, side, lower);
-    match rounds::border_block(game, lower, upper, side) {
-        Border::At(block) => rounds::split_block(n, blocks, block, known),
-        Border::Nothing => blocks,
-    }
-}
-
-// Rounds until one is decided or the splits made equal the allowance.
-fn run_rounds(mut game: Game, allowance: u16) -> Run
-    requires { ⌜ Accepted game ⌝ }
-    ensures { λ r. ⌜ (r .splits ≡ run allowance game .splits) × (r .game ≡ run allowance game .last) × Worked (r .game) (r .last) ⌝ }
-{
-    let n = game.states;
-    let objective = game.objective;
-    let starts = game.marks;
-    let side = rounds::hunting_side(objective);
-    let prey = rounds::prey_row(n, objective, starts);
-    let mut made: u16 = 0;
-    loop {
-        let lower = rounds::passes(game, side, true, prey);
-        let upper = rounds::passes(game, side, false, prey);
-        let marks = rows::mark_row(n, objective, lower, upper);
-        if !goes_on(decide(n, starts, marks), made, allowance) {
-            return Run {
-                splits: made,
-                game,
-                last: Round {
-                    lower,
-                    upper,
-                    marks,
-                },
-            };
-        }
-        let blocks = split_border(game, side, lower, upper);
-        game.block = blocks;
-        made += 1;
-    }
-}
-
+// The verdict of a decision after so many splits.
 fn spoken(decision: Decision, splits: u16) -> Verdict
     ensures { λ r. ⌜ r ≡ saidBy decision splits ⌝ }
 {
@@ -140,35 +67,191 @@ fn spoken(decision: Decision, splits: u16) -> Verdict
     }
 }
 
-// Solves an accepted game, and writes the three rows.
+// The verdict of a run that is over, by the rows of its last round; the marks, the blocks and the plan are written into
+// the three rows, one place per state. The rest keep their content.
+fn hand_back(
+    n: usize,
+    m: usize,
+    objective: u16,
+    splits: u16,
+    turn: &[u8],
+    starts: &[u8],
+    from: &[u16],
+    to: &[u16],
+    block: &[u16],
+    lower: &[u16],
+    upper: &[u16],
+    marks: &mut [u16],
+    blocks: &mut [u16],
+    moves: &mut [u16],
+) -> Verdict
+    requires { ⌜ ((g : Game) × Finished g n m objective (now turn) (now starts) (now from) (now to) (now block) (now lower) (now upper)) ⌝ }
+    requires { ⌜ (maxStates ≤ length (now marks)) × (maxStates ≤ length (now blocks)) × (maxStates ≤ length (now moves)) ⌝ }
+    ensures { λ r. ⌜ ((g : Game) → Finished g n m objective (now (turn .entry)) (now (starts .entry)) (now (from .entry)) (now (to .entry)) (now (block .entry)) (now (lower .entry)) (now (upper .entry)) → (r ≡ said (word g) g splits) × (now (marks .exit) ≡ fill (g .states) (mark g) (now (marks .entry))) × (now (blocks .exit) ≡ fill (g .states) (blockAt g) (now (blocks .entry))) × (now (moves .exit) ≡ fill (g .states) (planned (word g) g) (now (moves .entry)))) ⌝ }
+{
+    let worked = written::mark_row(n, objective, lower, upper);
+    let decision = decide(n, starts, &worked);
+    let plan = plan::plan_row(m, objective, turn, from, to, lower, upper, decision);
+    written::write_row(n, &worked, marks);
+    written::write_row(n, block, blocks);
+    written::write_row(n, &plan, moves);
+    spoken(decision, splits)
+}
+
+// Plays the run of a game whose rows are lent, and hands back what came of it.
+fn run_and_hand_back(
+    n: usize,
+    m: usize,
+    objective: u16,
+    side: u8,
+    allowance: u16,
+    turn: &[u8],
+    starts: &[u8],
+    from: &[u16],
+    to: &[u16],
+    last: &[u16],
+    before: &[u16],
+    need: &[u16],
+    first: &[u16],
+    prey: &[u16],
+    block: &mut [u16],
+    marks: &mut [u16],
+    blocks: &mut [u16],
+    moves: &mut [u16],
+) -> Verdict
+    requires { ⌜ ((g : Game) × Present g side n m objective (now turn) (now starts) (now from) (now to) (now last) (now before) (now need) (now first) (now prey) (now block)) ⌝ }
+    requires { ⌜ (maxStates ≤ length (now marks)) × (maxStates ≤ length (now blocks)) × (maxStates ≤ length (now moves)) ⌝ }
+    ensures { λ r. ⌜ ((g : Game) → Present g side n m objective (now (turn .entry)) (now (starts .entry)) (now (from .entry)) (now (to .entry)) (now (last .entry)) (now (before .entry)) (now (need .entry)) (now (first .entry)) (now (prey .entry)) (now (block .entry)) → HandedBack g allowance r (now (marks .entry)) (now (marks .exit)) (now (blocks .entry)) (now (blocks .exit)) (now (moves .entry)) (now (moves .exit))) ⌝ }
+{
+    let ran = outcome::run_rounds(
+        n,
+        m,
+        objective,
+        side,
+        allowance,
+        turn,
+        starts,
+        from,
+        to,
+        last,
+        before,
+        need,
+        first,
+        prey,
+        block,
+    );
+    let lower = ran.lower;
+    let upper = ran.upper;
+    hand_back(
+        n,
+        m,
+        objective,
+        ran.splits,
+        turn,
+        starts,
+        from,
+        to,
+        block,
+        &lower,
+        &upper,
+        marks,
+        blocks,
+        moves,
+    )
+}
+
+// Links the moves into each state, and works out where each state's moves begin and how many it needs; then plays the run.
+fn solve_rows(
+    n: usize,
+    m: usize,
+    objective: u16,
+    side: u8,
+    allowance: u16,
+    turn: &[u8],
+    starts: &[u8],
+    from: &[u16],
+    to: &[u16],
+    prey: &[u16],
+    block: &mut [u16],
+    marks: &mut [u16],
+    blocks: &mut [u16],
+    moves: &mut [u16],
+) -> Verdict
+    requires { ⌜ ((g : Game) × Apart g side n m objective (now turn) (now starts) (now from) (now to) (now prey) (now block)) ⌝ }
+    requires { ⌜ (maxStates ≤ length (now marks)) × (maxStates ≤ length (now blocks)) × (maxStates ≤ length (now moves)) ⌝ }
+    ensures { λ r. ⌜ ((g : Game) → Apart g side n m objective (now (turn .entry)) (now (starts .entry)) (now (from .entry)) (now (to .entry)) (now (prey .entry)) (now (block .entry)) → HandedBack g allowance r (now (marks .entry)) (now (marks .exit)) (now (blocks .entry)) (now (blocks .exit)) (now (moves .entry)) (now (moves .exit))) ⌝ }
+{
+    let mut last = [0u16; Game::MAX_STATES];
+    let mut before = [0u16; Game::MAX_MOVES];
+    let mut need = [0u16; Game::MAX_STATES];
+    let mut first = [0u16; ENDS];
+    chains::link(n, m, to, &mut last, &mut before);
+    chains::count_keys(n, m, from, &mut need);
+    chains::need_row(n, turn, side, &mut need);
+    rounds::first_moves(n, m, from, &mut first);
+    run_and_hand_back(
+        n,
+        m,
+        objective,
+        side,
+        allowance,
+        turn,
+        starts,
+        from,
+        to,
+        &last,
+        &before,
+        &need,
+        &first,
+        prey,
+        block,
+        marks,
+        blocks,
+        moves,
+    )
+}
+
+// Solves the game of an accepted file, and writes the three rows. The records are read into rows of plain numbers here,
+// once; the rows are lent to all that follows.
 fn solve_game(
-    game: Game,
+    file: &[u8],
     allowance: u16,
     marks: &mut [u16],
     blocks: &mut [u16],
     moves: &mut [u16],
 ) -> Verdict
-    requires { ⌜ Accepted game ⌝ }
+    requires { ⌜ refusal (now file) ≡ 0 ⌝ }
     requires { ⌜ (maxStates ≤ length (now marks)) × (maxStates ≤ length (now blocks)) × (maxStates ≤ length (now moves)) ⌝ }
-    ensures verdict { λ r. ⌜ r ≡ said (word (run allowance game .last)) (run allowance game .last) (run allowance game .splits) ⌝ }
-    ensures marks { λ _. ⌜ now (marks .exit) ≡ fill (run allowance game .last .states) (mark (run allowance game .last)) (now (marks .entry)) ⌝ }
-    ensures blocks { λ _. ⌜ now (blocks .exit) ≡ fill (run allowance game .last .states) (blockAt (run allowance game .last)) (now (blocks .entry)) ⌝ }
-    ensures moves { λ _. ⌜ now (moves .exit) ≡ fill (run allowance game .last .states) (planned (word (run allowance game .last)) (run allowance game .last)) (now (moves .entry)) ⌝ }
+    ensures { λ r. ⌜ HandedBack (gameOf (now (file .entry))) allowance r (now (marks .entry)) (now (marks .exit)) (now (blocks .entry)) (now (blocks .exit)) (now (moves .entry)) (now (moves .exit)) ⌝ }
 {
-    let ran = run_rounds(game, allowance);
-    let finest = ran.game;
-    let last = ran.last;
-    let n = finest.states;
-    let starts = finest.marks;
-    let worked = last.marks;
-    let decision = decide(n, starts, worked);
-    let plan = plan::plan_row(finest, last, decision);
-    let block = finest.block;
-    let numbers = rounds::block_row(n, block);
-    rows::write_row(n, worked, marks);
-    rows::write_row(n, numbers, blocks);
-    rows::write_row(n, plan, moves);
-    spoken(decision, ran.splits)
+    let n = word_at(file, 4) as usize;
+    let m = word_at(file, 6) as usize;
+    let objective = word_at(file, 8);
+    let side = rounds::hunting_side(objective);
+    let mut turn = [0u8; Game::MAX_STATES];
+    let mut starts = [0u8; Game::MAX_STATES];
+    let mut block = [0u16; Game::MAX_STATES];
+    let mut from = [0u16; Game::MAX_MOVES];
+    let mut to = [0u16; Game::MAX_MOVES];
+    decoding::plain::plain_states(file, n, &mut turn, &mut starts, &mut block);
+    decoding::plain::plain_moves(file, n, m, &mut from, &mut to);
+    let prey = rounds::prey_row(n, objective, starts);
+    solve_rows(
+        n,
+        m,
+        objective,
+        side,
+        allowance,
+        &turn,
+        &starts,
+        &from,
+        &to,
+        &prey,
+        &mut block,
+        marks,
+        blocks,
+        moves,
+    )
 }
 
 // Solves the game of a file with at most `allowance` splits, and writes the three rows: marks, blocks and moves, one
@@ -194,10 +277,9 @@ pub fn solve(
     if moves.len() < Game::MAX_STATES {
         return Verdict::Refused(1);
     }
-    let decoded = decoding::decode(file);
-    let answer = decoded.answer;
-    match answer {
-        Answer::Accepted => solve_game(decoded.game, allowance, marks, blocks, moves),
-        Answer::Refused(number) => Verdict::Refused(number),
+    let number = first_refusal(file);
+    if number != 0 {
+        return Verdict::Refused(number);
     }
+    solve_game(file, allowance, marks, blocks, moves)
 }

@@ -1,6 +1,5 @@
 // The winner's plan, by one walk over the moves.
 use crate::Decision;
-use crate::Round;
 use game::Game;
 ghost use mathlib.Core.Path.{_≡_};
 ghost use mathlib.Core.Bool.{_&&_};
@@ -11,10 +10,10 @@ ghost use Rattle.game.specs.Limits.{maxStates};
 ghost use Rattle.game.specs.Rows.{Cells};
 ghost use Rattle.game.specs.Game.{knownTurn};
 ghost use Rattle.game.specs.Arena.{sideOf};
-ghost use Rattle.game.specs.Accepted.{Accepted};
-ghost use Rattle.solver.specs.Run.{word};
+ghost use Rattle.game.specs.declared.Game.{Game};
+ghost use Rattle.runs.specs.Run.{word};
 ghost use Rattle.solver.specs.Plan.{planned};
-ghost use Rattle.solver.specs.Work.{goodMove, lowerOf, lowestGood, Worked, decisionOf, winnerRule};
+ghost use Rattle.solver.specs.Work.{goodMove, lowerOf, lowestGood, Walk, Planning, decisionOf, winnerRule};
 
 // No move.
 pub const NONE: u16 = 65535;
@@ -50,25 +49,27 @@ fn better(best: u16, to: u16, mine: bool, good: bool) -> u16
 
 // For each state of the side its lowest-numbered good move, or none.
 fn advice_row(
-    game: Game,
+    m: usize,
     side: u8,
     chase: bool,
-    row: [u16; Game::MAX_STATES],
+    turn: &[u8],
+    from: &[u16],
+    to: &[u16],
+    row: &[u16],
 ) -> [u16; Game::MAX_STATES]
-    requires { ⌜ Accepted game ⌝ }
-    ensures { λ r. ⌜ Cells maxStates r (lowestGood game side chase (λ s. getD row s 0) (game .moves)) ⌝ }
+    requires { ⌜ ((n : ℕ) × Walk n m (now turn) (now from) (now to) (now row)) ⌝ }
+    ensures { λ r. ⌜ Cells maxStates r (lowestGood side chase (λ s. getD (now (turn .entry)) s 0) (λ k. getD (now (from .entry)) k 0) (λ k. getD (now (to .entry)) k 0) (λ s. getD (now (row .entry)) s 0) m) ⌝ }
 {
-    let m = game.moves;
     let mut out = [NONE; Game::MAX_STATES];
     let mut k: usize = 0;
     while k < m {
-        let f = game.from[k].0 as usize;
-        let to = game.to[k].0;
-        let t = to as usize;
+        let f = from[k] as usize;
+        let next = to[k];
+        let t = next as usize;
         out[f] = better(
             out[f],
-            to,
-            game.turn[f] == side,
+            next,
+            turn[f] == side,
             is_good(chase, row[f], row[t]),
         );
         k += 1;
@@ -77,29 +78,44 @@ fn advice_row(
 }
 
 // The plan of the side that wins: if it hunts, it chases; otherwise it flees.
-fn winner_row(game: Game, round: Round, winner: u8) -> [u16; Game::MAX_STATES]
-    requires { ⌜ Worked game round ⌝ }
+fn winner_row(
+    m: usize,
+    objective: u16,
+    turn: &[u8],
+    from: &[u16],
+    to: &[u16],
+    lower: &[u16],
+    upper: &[u16],
+    winner: u8,
+) -> [u16; Game::MAX_STATES]
+    requires { ⌜ ((g : Game) × Planning g m objective (now turn) (now from) (now to) (now lower) (now upper)) ⌝ }
     requires { ⌜ T (knownTurn winner) ⌝ }
-    ensures { λ r. ⌜ ((s : ℕ) → s < game .states → getD r s 0 ≡ winnerRule game (sideOf winner) s) ⌝ }
+    ensures { λ r. ⌜ ((g : Game) → Planning g m objective (now (turn .entry)) (now (from .entry)) (now (to .entry)) (now (lower .entry)) (now (upper .entry)) → (s : ℕ) → s < g .states → getD r s 0 ≡ winnerRule g (sideOf winner) s) ⌝ }
 {
-    let lower = round.lower;
-    let upper = round.upper;
-    let hunter = rounds::hunting_side(game.objective);
+    let hunter = rounds::hunting_side(objective);
     if hunter == winner {
-        return advice_row(game, winner, true, lower);
+        return advice_row(m, winner, true, turn, from, to, lower);
     }
-    advice_row(game, winner, false, upper)
+    advice_row(m, winner, false, turn, from, to, upper)
 }
 
 // The moves row of a round: an open one has no plan.
-pub fn plan_row(game: Game, round: Round, decision: Decision) -> [u16; Game::MAX_STATES]
-    requires { ⌜ Worked game round ⌝ }
-    requires { ⌜ decision ≡ decisionOf (word game) game ⌝ }
-    ensures { λ r. ⌜ ((s : ℕ) → s < game .states → getD r s 0 ≡ planned (word game) game s) ⌝ }
+pub fn plan_row(
+    m: usize,
+    objective: u16,
+    turn: &[u8],
+    from: &[u16],
+    to: &[u16],
+    lower: &[u16],
+    upper: &[u16],
+    decision: Decision,
+) -> [u16; Game::MAX_STATES]
+    requires { ⌜ ((g : Game) × Planning g m objective (now turn) (now from) (now to) (now lower) (now upper)) ⌝ }
+    ensures { λ r. ⌜ ((g : Game) → Planning g m objective (now (turn .entry)) (now (from .entry)) (now (to .entry)) (now (lower .entry)) (now (upper .entry)) → decision ≡ decisionOf (word g) g → (s : ℕ) → s < g .states → getD r s 0 ≡ planned (word g) g s) ⌝ }
 {
     match decision {
-        Decision::Yes(_) => winner_row(game, round, 1),
-        Decision::No => winner_row(game, round, 2),
+        Decision::Yes(_) => winner_row(m, objective, turn, from, to, lower, upper, 1),
+        Decision::No => winner_row(m, objective, turn, from, to, lower, upper, 2),
         Decision::Open => [NONE; Game::MAX_STATES],
     }
 }

@@ -5,9 +5,8 @@ use Prim.Native.Nat.{_-_, _≤_, _<_}
 use lib.ListN.{getD}
 use Rattle.game.specs.Limits.{maxStates}
 use Rattle.game.specs.Rows.{blank, Cells}
-use Rattle.game.proofs.Small.{from-small, sweep}
 use Rattle.game.proofs.Rows.{cells-store, blank-length, blank-at}
-use Rattle.game.specs.Game.{fromAt}
+use Rattle.chains.proofs.Filling.{places}
 use Rattle.solver.specs.Plan.{noMove}
 use Rattle.solver.specs.Work.{lowestGood}
 use Rattle.solver.proofs.Advice.{good-none, good-more, good-same}
@@ -15,50 +14,54 @@ use Rattle.solver.proofs.plan.advice_row.Statement.{statement}
 use Rattle.solver.proofs.plan.advice_row.Tie as tie
 
 abbrev Inv-loop : tie.InvT-loop
-Inv-loop side chase game row m out₀ k₀ out k = (k ≤ m) × Cells maxStates out (lowestGood game side chase (λ s. getD row s 0) k)
+Inv-loop m side chase turn from to row out₀ k₀ out k =
+    (k ≤ m) × Cells maxStates out (lowestGood side chase (λ s. getD turn s 0) (λ j. getD from j 0) (λ j. getD to j 0) (λ s. getD row s 0) k)
 
 abbrev μ-loop : tie.MeasureT-loop
-μ-loop side chase game row m out₀ k₀ out k = m - k
+μ-loop m side chase turn from to row out₀ k₀ out k = m - k
 
 loop-holds : tie.Need-loop-holds Inv-loop μ-loop
 unfolding blank
-loop-holds c = (search sweep, record { long = blank-length maxStates noMove; cell = λ s l. blank-at maxStates noMove s l ∙ sym (good-none _ _ _ _ s) })
+loop-holds c = (search places, record { long = blank-length maxStates noMove; cell = λ s l. blank-at maxStates noMove s l ∙ sym (good-none _ _ _ _ _ _ s) })
 
 pub advice-row-spec : {M : Type 1} → statement M
 advice-row-spec =
     tie.close
     (tie.spec Inv-loop μ-loop
     loop-holds
-    (λ c. search sweep)
-    (λ c. search sweep)
-    (λ c. search sweep)
-    (λ c. search sweep)
-    (λ c. search sweep)
-    (λ c. search sweep)
-    (λ c. search sweep)
-    (λ c. search sweep)
-    (λ c. search sweep)
-    (λ c. search sweep)
-    (λ c. search sweep)
-    (λ c. search sweep)
-    (λ c. search sweep)
-    (λ c κs. search sweep)
-    (λ c κs. search sweep)
-    (λ c. search sweep)
-    (λ c. search sweep)
-    (λ c. search sweep)
-    (λ c. search sweep)
+    (λ c. search places)
+    (λ c. search places)
+    (λ c. search places)
+    (λ c. search places)
+    (λ c. search places)
+    (λ c. search places)
+    (λ c. search places)
+    (λ c. search places)
+    (λ c. omega (arith, c .before .before .before .before .before .before .before .before .before .pre .1 .froms .below _ (c .before .before .before .loop-test .taken)))
+    (λ c. search places)
+    (λ c. omega (arith, c .before .before .before .before .before .before .before .before .before .before .pre .1 .froms .below _ (c .before .before .before .before .loop-test .taken)))
+    (λ c. search places)
+    (λ c. omega (arith, c .before .before .before .before .before .before .before .before .before .before .before .pre .1 .tos .below _ (c .before .before .before .before .before .loop-test .taken)))
+    (λ c κs. search places)
+    (λ c κs. search places)
+    (λ c. search places)
+    (λ c. search places)
+    (λ c. search places)
+    (λ c. search places)
     (λ c.
-    let at-loop = c .before .before .before .before in
-    let start = at-loop .before in
-    let g = start .args .t1 in
+    let in-loop = c .before .before .before .before .before .before .before in
+    let at-loop = in-loop .before in
+    let start = at-loop .before .before .before .before .before in
+    let walk = start .pre .1 in
+    let from = start .args .from .now in
     let k = at-loop .loop .k in
-    let place : fromAt g k < maxStates = from-small g (start .pre) k (omega arith) in (
-      search sweep,
+    let place : getD from k 0 < maxStates = omega (arith, walk .few-states, walk .froms .below k (in-loop .loop-test .taken)) in (
+      search places,
       cells-store _ _ (at-loop .loop .inv .1) refl place
-          (good-more g (start .args .side) (start .args .chase) _ k _ _ _ (at-loop .loop .inv .1 .cell _ place) (c .before .is-good .ensures) (c .better .ensures))
-          (good-same g (start .args .side) (start .args .chase) _ k),
+          (good-more (start .args .side) (start .args .chase) _ (λ j. getD from j 0) _ _ k _ _ _ (at-loop .loop .inv .1 .cell _ place) (c .before .is-good .ensures) (c .better .ensures))
+          (good-same (start .args .side) (start .args .chase) _ (λ j. getD from j 0) _ _ k),
     ))
     (λ c.
-    let e : c .before .loop .k ≡ c .before .before .args .t1 .moves = omega arith in
-    rw e at (c .before .loop .inv .1)))
+    let at-loop = c .before in
+    let e : at-loop .loop .k ≡ at-loop .before .before .before .before .before .args .m = omega arith in
+    rw e at (at-loop .loop .inv .1)))

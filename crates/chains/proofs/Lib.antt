@@ -1,0 +1,5 @@
+pub mod Rows
+pub mod Counts
+pub mod Chains
+pub mod Filling
+pub mod Parting

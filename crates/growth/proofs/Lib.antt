@@ -1,0 +1,11 @@
+pub mod Stamp
+pub mod Forced
+pub mod Listing
+pub mod Hits
+pub mod Queue
+pub mod Moving
+pub mod Ripening
+pub mod Walking
+pub mod Passing
+pub mod Says
+pub mod Parts

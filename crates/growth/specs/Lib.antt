@@ -1,0 +1,3 @@
+pub mod Stamp
+pub mod Net
+pub mod Queue

@@ -1,0 +1,2 @@
+pub mod Playing
+pub mod Ending

@@ -1,0 +1,229 @@
+-- The loop of rounds: how it begins, goes on and stops.
+use Prim.Native.Nat.{ℕ, suc, _+_, _≤_, _<_}
+use mathlib.Core.Path.{_≡_, refl, sym, ap, subst, _∙_}
+use mathlib.Core.Bool.{Bool, true, false, not, _||_, Bool·beq, true≢false}
+use mathlib.Core.List.{List}
+use native.Mathlib.Decide.{ℕ-discrete}
+use native.Mathlib.Numerals.{add-one}
+use native.Mathlib.Omega.{arith}
+use lib.ListN.{length, getD, set}
+use lib.Dec.{T, eqb, eqb→eq}
+use borrow.Author.Tests.{eq-eqb}
+use Rattle.arena.specs.Sets.{Set, least}
+use Rattle.arena.proofs.Tests.{holds, and-l, and-r}
+use Rattle.arena.proofs.Sets.{some-intro, count-pos, least-hit}
+use Rattle.game.specs.Game.{marked, blockAt}
+use Rattle.game.specs.Arena.{goalOf}
+use Rattle.game.specs.Accepted.{Accepted}
+use Rattle.game.specs.declared.Game.{Game}
+use Rattle.blocks.specs.Blocks.{blockCount, isBlock}
+use Rattle.blocks.proofs.Split.{blockCount-le}
+use Rattle.growth.specs.Stamp.{isIn}
+use Rattle.chains.specs.Lent.{Holds}
+use Rattle.rounds.specs.Border.{bordering, borderAnswer}
+use Rattle.rounds.specs.Split.{enough, apart as rowApart}
+use Rattle.rounds.specs.declared.Border.{Border}
+use Rattle.rounds.specs.declared.Border.the-variants.{At, Nothing}
+use Rattle.runs.specs.Run.{knownStates, borderOf, splitGame, round}
+use Rattle.runs.specs.Work.{upperStates, hasWay, caught, catchable}
+use Rattle.runs.specs.First.{CatchableBefore}
+use Rattle.play.specs.Found.{nothingFound, foundBlock}
+use Rattle.rows.specs.Rows.{Present, Saying, Lowered, Underway, Next, Begun, Played, Stopped}
+use Rattle.runs.proofs.Rounds.{split-counts}
+use Rattle.runs.proofs.Settled.{round-more, word-open}
+use Rattle.blocks.proofs.Refine.{apart}
+use Rattle.runs.proofs.Undone.{round-states, log-none, log-split}
+use Rattle.runs.proofs.First.{uncaught-none, uncaught-more, catchable-none, caught-run, open-run}
+use Rattle.rows.proofs.Present.{few-states, present-split, way-is}
+use Rattle.rows.proofs.Bordering.{nothing-next, next-found, new-name}
+use Rattle.rows.proofs.Splitting.{both-parts}
+
+-- an accepted game has a block
+some-block : (g : Game) → Accepted g → 1 ≤ blockCount (g .states) (blockAt g)
+unfolding blockCount
+some-block g ok =
+    let lowest : blockAt g 0 ≡ 0 = omega (arith, ok .block-below 0 (ok .some-states)) in
+    count-pos (g .states) (isBlock (blockAt g)) (some-intro (g .states) (isBlock (blockAt g)) 0 (ok .some-states) (rw (eq-eqb (blockAt g 0) 0 lowest) tt))
+
+-- the first round
+pub play-first : {side n m objective : ℕ} {turn starts from to last before need first prey block last' before' size have hit lower queue : List ℕ} {tail : ℕ} (parents names : List ℕ)
+    → (v : Begun side n m objective turn starts from to last before need first prey block last' before' size have hit lower queue tail)
+    → Played (v .game) side n m objective turn starts from to last before need first prey block last' before' size have hit lower queue parents names 0 0 tail
+unfolding round
+play-first {n = n} parents names v = record {
+  present = v .present;
+  lowered = v .lowered;
+  log = log-none (v .game) n parents names;
+  uncaught = uncaught-none (v .game);
+  hope = catchable-none (v .game);
+  low = omega arith;
+  fewer = subst (λ (k : ℕ). 0 < blockCount k (blockAt (v .game))) (v .present .states-is) (some-block (v .game) (v .present .accepted));
+}
+
+module _ {g : Game} (ok : Accepted g) {side n m objective : ℕ} {turn starts from to last before need first prey block last' before' size have hit lower queue parents names : List ℕ}
+    {made clear tail : ℕ} (y : Played g side n m objective turn starts from to last before need first prey block last' before' size have hit lower queue parents names made clear tail) where
+  -- the round, for the functions that work on it
+  abbrev pub underway : Underway n m from to last before need block last' before' size have hit lower queue tail
+  underway = record {
+    game = round made g;
+    side = side;
+    objective = objective;
+    turn = turn;
+    starts = starts;
+    first = first;
+    prey = prey;
+    present = y .present;
+    lowered = y .lowered;
+  }
+
+  -- there are fewer splits than states
+  pub few-splits : made < n
+  few-splits = omega (arith, y .fewer, blockCount-le n (blockAt (round made g)))
+
+  pub few-made : made < 512
+  few-made = omega (arith, few-splits, few-states (y .present))
+
+  -- the hunting side surely has its way: the run ends here
+  pub stop-caught : {allowance : ℕ} {lower₀ : List ℕ} {r : Bool} → made ≤ allowance → (made ≡ 0 → lower ≡ lower₀)
+      → r ≡ hasWay (goalOf objective) n (λ s. marked 1 (getD starts s 0)) (isIn lower) → r ≡ true → Stopped g allowance lower₀ lower false made clear
+  stop-caught {allowance} within kept way is = record {
+    within = within;
+    ended = λ _. caught-run g ok allowance made within (y .uncaught) (sym (way-is (y .present) (y .lowered .lower-in) way) ∙ is);
+    settled = λ z. absurd (true≢false (sym z));
+    kept = kept;
+  }
+
+  module _ {r : Bool} (way : r ≡ hasWay (goalOf objective) n (λ s. marked 1 (getD starts s 0)) (isIn lower)) (not-yet : r ≡ false) where
+    -- it does not
+    pub uncaught-now : caught (round made g) ≡ false
+    uncaught-now = sym (way-is (y .present) (y .lowered .lower-in) way) ∙ not-yet
+
+    -- whether it may, by the row of what it may bring about
+    pub open-now : {up : List ℕ} {open' : Bool} → Saying n up (upperStates (round made g)) → open' ≡ hasWay (goalOf objective) n (λ s. marked 1 (getD starts s 0)) (isIn up) → open' ≡ catchable (round made g)
+    open-now says e = way-is (y .present) says e
+
+    module _ {found : Border} (answer : found ≡ borderAnswer n (bordering (round made g) side lower)) (allowance : ℕ) {over : Bool} (over-is : over ≡ (nothingFound found || eqb made allowance)) where
+      -- no further split, or it may not: the run ends here, or before
+      pub stop-last : {lower₀ up : List ℕ} {open' last-one : Bool} → made ≤ allowance → (made ≡ 0 → lower ≡ lower₀) → Saying n up (upperStates (round made g))
+          → open' ≡ hasWay (goalOf objective) n (λ s. marked 1 (getD starts s 0)) (isIn up) → last-one ≡ (over || not open') → last-one ≡ true → Stopped g allowance lower₀ lower (not open') made clear
+      stop-last {lower₀} {up} {open'} within kept says e last-is is = go open' refl
+        where
+          ends : (x : Border) → found ≡ x → (nothingFound x || eqb made allowance) ≡ true → catchable (round made g) ≡ true → made ≡ allowance
+          ends (At b) z h c = eqb→eq made allowance (holds _ h)
+          ends Nothing z h c = absurd (nothing-next (y .present) (y .lowered) found answer z (word-open (round made g) uncaught-now c))
+
+          go : (x : Bool) → open' ≡ x → Stopped g allowance lower₀ lower (not open') made clear
+          go true z = record {
+            within = within;
+            ended = λ _. let c = sym (open-now says e) ∙ z in
+                open-run g ok allowance made (ends found refl (sym over-is ∙ over-holds z) c) uncaught-now c;
+            settled = λ w. absurd (true≢false (sym w ∙ ap not z));
+            kept = kept;
+          }
+            where
+              or-no : (a : Bool) → (a || false) ≡ a
+              or-no true = refl
+              or-no false = refl
+
+              over-holds : open' ≡ true → over ≡ true
+              over-holds z = sym (or-no over) ∙ sym (ap (λ (a : Bool). over || not a) z) ∙ sym last-is ∙ is
+          go false z = record {
+            within = within;
+            ended = λ w. absurd (true≢false (sym (ap not z) ∙ w));
+            settled = λ _. record { low = y .low; hope = y .hope; lost = sym (open-now says e) ∙ z };
+            kept = kept;
+          }
+
+      -- a further split is to be made
+      module _ (more : over ≡ false) where
+        unfinished : (nothingFound found || eqb made allowance) ≡ false
+        unfinished = sym over-is ∙ more
+
+        pub allowed-more : made ≤ allowance → made < allowance
+        allowed-more within = go found unfinished
+          where
+            go : (x : Border) → (nothingFound x || eqb made allowance) ≡ false → made < allowance
+            go (At b) h = elim (ℕ-discrete made allowance) [ yes e ↦ absurd (true≢false (sym (eq-eqb made allowance e) ∙ h)) | no ne ↦ omega arith ]
+            go Nothing h = absurd (true≢false h)
+
+        pub next-here : Next (round made g) n block hit lower (foundBlock found)
+        next-here = go found refl unfinished
+          where
+            go : (x : Border) → found ≡ x → (nothingFound x || eqb made allowance) ≡ false → Next (round made g) n block hit lower (foundBlock x)
+            go (At b) z h = next-found (y .present) (y .lowered) found b answer z
+            go Nothing z h = absurd (true≢false h)
+
+  -- ## The next round
+
+  module _ {b : ℕ} (next : Next (round made g) n block hit lower b) {c : ℕ} (new : c ≡ least n (rowApart block b (enough need have))) where
+    -- the state that names the new part, and state b, are on two sides of the known set
+    one-more : blockCount n (blockAt (splitGame (round made g))) ≡ suc (blockCount n (blockAt (round made g)))
+    unfolding splitGame
+    one-more = subst (λ (k : ℕ). blockCount k (blockAt (splitGame h)) ≡ suc (blockCount k (blockAt h))) (y .present .states-is) (go (K b) refl)
+      where
+        h : Game
+        h = round made g
+
+        K : Set
+        K = knownStates h
+
+        small : c < h .states
+        small = rw (y .present .states-is) (rw new (both-parts (y .present) (y .lowered) next))
+
+        leaves : T (apart (blockAt h) b K c)
+        leaves = let e = new-name (y .present) (y .lowered) (next .state) new in
+            subst (λ (x : ℕ). T (apart (blockAt h) b K x)) (sym e) (least-hit (h .states) (apart (blockAt h) b K) (subst (λ (x : ℕ). x < h .states) e small))
+
+        in-block : blockAt h c ≡ borderOf h
+        in-block = eqb→eq (blockAt h c) b (and-l (eqb (blockAt h c) b) (not (Bool·beq (K c) (K b))) leaves) ∙ next .here
+
+        own : blockAt h b ≡ borderOf h
+        own = sym (y .present .block-is .cell b (next .state)) ∙ next .name ∙ next .here
+
+        there : b < h .states
+        there = rw (y .present .states-is) (next .state)
+
+        unlike : T (not (Bool·beq (K c) (K b)))
+        unlike = and-r (eqb (blockAt h c) b) (not (Bool·beq (K c) (K b))) leaves
+
+        side-true : (x y : Bool) → T (not (Bool·beq x y)) → y ≡ true → T (not x)
+        side-true true true d e = d
+        side-true false true d e = tt
+        side-true x false d e = absurd (true≢false (sym e))
+
+        side-false : (x y : Bool) → T (not (Bool·beq x y)) → y ≡ false → T x
+        side-false true false d e = tt
+        side-false false false d e = d
+        side-false x true d e = absurd (true≢false e)
+
+        go : (x : Bool) → K b ≡ x → blockCount (h .states) (blockAt (splitGame h)) ≡ suc (blockCount (h .states) (blockAt h))
+        go true e = split-counts h (y .present .accepted) (b, there, own, holds (K b) e) (c, small, in-block, side-true (K c) (K b) unlike e)
+        go false e = split-counts h (y .present .accepted) (c, small, in-block, side-false (K c) (K b) unlike e) (b, there, own, rw e tt)
+
+    pub play-next : (clear' : ℕ) {finer last₁ before₁ size₁ have₁ hit₁ lower₁ queue₁ : List ℕ} {tail₁ : ℕ}
+        → caught (round made g) ≡ false → CatchableBefore g clear' → clear' ≤ made + 1 → made < length parents → made < length names
+        → Holds n finer (blockAt (splitGame (round made g))) → Lowered (splitGame (round made g)) n m from to need finer last₁ before₁ size₁ have₁ hit₁ lower₁ queue₁ tail₁
+        → Played g side n m objective turn starts from to last before need first prey finer last₁ before₁ size₁ have₁ hit₁ lower₁ queue₁ (set parents made b) (set names made c) (made + 1) clear' tail₁
+    play-next clear' {finer} {last₁} {before₁} {size₁} {have₁} {hit₁} {lower₁} {queue₁} {tail₁} uncaught hope low long-parents long-names blocks lowered = record {
+      present = subst (λ (h : Game). Present h side n m objective turn starts from to last before need first prey finer) here (present-split (y .present) blocks);
+      lowered = subst (λ (h : Game). Lowered h n m from to need finer last₁ before₁ size₁ have₁ hit₁ lower₁ queue₁ tail₁) here lowered;
+      log = log-split (y .log) long-parents long-names b c ok states-here (next .here) (next .state) name-here;
+      uncaught = uncaught-more g made uncaught;
+      hope = hope;
+      low = low;
+      fewer = subst (λ (h : Game). made + 1 < blockCount n (blockAt h)) here (omega (arith, one-more, y .fewer));
+    }
+      where
+        here : splitGame (round made g) ≡ round (made + 1) g
+        here = sym (round-more made g) ∙ ap (λ (k : ℕ). round k g) (sym (add-one made))
+
+        states-here : g .states ≡ n
+        states-here = sym (round-states made g) ∙ y .present .states-is
+
+        name-here : c ≡ least n (apart (blockAt (round made g)) b (knownStates (round made g)))
+        name-here = new-name (y .present) (y .lowered) (next .state) new ∙ ap (λ (k : ℕ). least k (apart (blockAt (round made g)) b (knownStates (round made g)))) (y .present .states-is)
+
+-- neither of two tests holds
+pub neither : (a b : Bool) {r : Bool} → r ≡ (a || b) → r ≡ false → (a ≡ false) × (b ≡ false)
+neither true b e z = absurd (true≢false (sym e ∙ z))
+neither false b e z = (refl, sym e ∙ z)

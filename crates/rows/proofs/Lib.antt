@@ -1,0 +1,4 @@
+pub mod Present
+pub mod Bordering
+pub mod Copies
+pub mod Splitting

@@ -1,0 +1,4 @@
+pub mod Run
+pub mod Work
+pub mod Log
+pub mod First
