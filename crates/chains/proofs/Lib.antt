@@ -1,4 +1,3 @@
-pub mod Rows
 pub mod Counts
 pub mod Chains
 pub mod Filling

@@ -1,27 +1,20 @@
 -- Laws of rows of passes.
-use mathlib.Core.Path.{_≡_, refl, sym, ap, _∙_, fun-ext}
-use mathlib.Core.Bool.{Bool, true, false, not, _&&_, _||_, cond}
+use mathlib.Core.Path.{_≡_, refl, ap, _∙_, fun-ext}
+use mathlib.Core.Bool.{Bool, true, false, not, _||_, cond}
 use mathlib.Core.Logic.{⊎-elim}
-use mathlib.Core.List.{List}
-use Prim.Native.Nat.{ℕ, zero, suc, _+_, _≤_, _<_}
+use Prim.Native.Nat.{ℕ, zero, suc, _≤_, _<_}
 use native.Mathlib.Omega.{arith}
 use native.Mathlib.Decide.{le-ind}
-use native.Mathlib.Numerals.{add-one}
-use lib.ListN.{length}
 use lib.Dec.{eqb, eqb·suc-zero}
-use Rattle.arena.specs.Sets.{Set, bit, some}
+use Rattle.arena.specs.Sets.{Set, bit}
 use Rattle.arena.specs.Passes.{grow, rank}
-use Rattle.arena.proofs.Tests.{is-false, fails, or-r}
-use Rattle.arena.proofs.Sets.{some-intro}
+use Rattle.arena.proofs.Tests.{fails, or-r}
 use Rattle.arena.proofs.Loops.{le-or-lt}
 use Rattle.arena.proofs.Passes.{Mono, mono-ext, rank-le}
-use Rattle.game.specs.Rows.{fill}
-use Rattle.game.proofs.Rows.{fill-at, fill-again, fill-cong}
-use Rattle.growth.specs.Stamp.{passAt, entered, isIn, passNo, stampFrom, stamp}
-use Rattle.chains.proofs.Rows.{fill-own}
+use Rattle.growth.specs.Stamp.{entered, passNo, stampFrom, stamp}
 
 -- a state has a pass after this one if it had one before, or joins
-entered-no : (own : ℕ) (j : Bool) (k : ℕ) → not (eqb (passNo own j (suc k)) 0) ≡ (not (eqb own 0) || j)
+pub entered-no : (own : ℕ) (j : Bool) (k : ℕ) → not (eqb (passNo own j (suc k)) 0) ≡ (not (eqb own 0) || j)
 unfolding passNo
 entered-no zero true k = rw (eqb·suc-zero k) refl
 entered-no zero false k = refl
@@ -91,61 +84,3 @@ stamp-stop n step mono f k still m km =
     (λ m _ ih s l.
     rw (ih s l, mono-ext n step mono (entered (stampFrom step f m)) (entered (stampFrom step f k)) (λ t b. ap (λ (v : ℕ). not (eqb v 0)) (ih t b)) s l)
     (no-joins (stampFrom step f k s) (step (entered (stampFrom step f k)) s) (suc k) (suc (suc m)) (still s l))) m km
-
--- a state that is inside or does not join keeps its pass
-pub not-now : (own : ℕ) (j : Bool) (m : ℕ) → (eqb own 0 && j) ≡ false → passNo own j m ≡ own
-unfolding passNo
-not-now zero j m h = rw h refl
-not-now (suc own) j m h = rw (eqb·suc-zero own) refl
-
--- ## The loop of passes
-
-module _ (n : ℕ) (step : Set → Set) (mono : Mono n step) (start : List ℕ) where
-  -- no pass yet
-  pub passes-none : n ≤ length start → start ≡ fill n (stampFrom step (passAt start) 0) start
-  unfolding stampFrom
-  passes-none h = fill-own n start h
-
-  -- one pass more, from a row that k passes made: J are the states whose block joins
-  module _ (k : ℕ) (row next : List ℕ) (J : Set) (made : row ≡ fill n (stampFrom step (passAt start) k) start) (joins : (s : ℕ) → s < n → J s ≡ step (isIn row) s)
-      (passed : next ≡ fill n (λ s. passNo (passAt row s) (J s) (k + 2)) row) where
-    -- the pass that each state has, and whether its block joins
-    pass-is : (s : ℕ) → s < n → passAt row s ≡ stampFrom step (passAt start) k s
-    pass-is s l = rw made (fill-at n _ start s l)
-
-    join-is : (s : ℕ) → s < n → J s ≡ step (entered (stampFrom step (passAt start) k)) s
-    join-is s l = joins s l ∙ mono-ext n step mono (isIn row) (entered (stampFrom step (passAt start) k)) (λ t m. ap (λ (v : ℕ). not (eqb v 0)) (pass-is t m)) s l
-
-    -- the row of k + 1 passes
-    pub passes-more : next ≡ fill n (stampFrom step (passAt start) (k + 1)) start
-    unfolding stampFrom
-    passes-more =
-        passed ∙ ap (λ (l : List ℕ). fill n (λ s. passNo (passAt row s) (J s) (k + 2)) l) made ∙ fill-again n _ _ start
-        ∙ fill-cong n _ _ start (λ s l. rw (add-one, two, pass-is s l, join-is s l) refl)
-      where
-        two : k + 2 ≡ suc (suc k)
-        two = omega arith
-
-    -- where no state outside joined, the row of all passes
-    pub passes-stop : k < n → some n (λ s. eqb (passAt row s) 0 && J s) ≡ false → next ≡ fill n (stampFrom step (passAt start) n) start
-    unfolding stampFrom
-    passes-stop l none =
-        passes-more ∙ fill-cong n _ _ start (λ s b. rw add-one (still s b ∙ sym (stamp-stop n step mono (passAt start) k still n (omega arith) s b)))
-      where
-        outside : Set
-        outside s = eqb (passAt row s) 0 && J s
-
-        still : (s : ℕ) → s < n → stampFrom step (passAt start) (suc k) s ≡ stampFrom step (passAt start) k s
-        still s b = not-now (stampFrom step (passAt start) k s) (step (entered (stampFrom step (passAt start) k)) s) (suc (suc k))
-            (rw (← pass-is s b, ← join-is s b)
-            (is-false (outside s) (λ x. fails (some n outside) none (some-intro n outside s b x))))
-
--- where a row says the set A, its passes are those of A
-pub passes-from : (n : ℕ) (step : Set → Set) → Mono n step → (A : Set) (start d : List ℕ) → start ≡ fill n (λ s. bit (A s)) d → (k : ℕ) → fill n (stampFrom step (passAt start) k) start ≡ fill n (stamp step A k) d
-passes-from n step mono A start d e k =
-    ap (λ (l : List ℕ). fill n (stampFrom step (passAt start) k) l) e ∙ fill-again n _ _ d
-    ∙ fill-cong n _ _ d (stamp-cong n step mono (passAt start) (λ s. bit (A s)) (λ s l. rw e (fill-at n _ d s l)) k)
-
--- the set that the row says after k passes
-pub passes-set : (n : ℕ) (step : Set → Set) (A : Set) (d : List ℕ) (k s : ℕ) → s < n → isIn (fill n (stamp step A k) d) s ≡ grow step A k s
-passes-set n step A d k s l = ap (λ (v : ℕ). not (eqb v 0)) (fill-at n _ d s l) ∙ ap (λ (X : Set). X s) (stamp-grow step A k)

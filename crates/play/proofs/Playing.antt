@@ -1,17 +1,20 @@
 -- The loop of rounds: how it begins, goes on and stops.
-use Prim.Native.Nat.{ℕ, suc, _+_, _≤_, _<_}
+use Prim.Native.Nat.{ℕ, suc, _+_, _-_, _*_, _≤_, _<_}
 use mathlib.Core.Path.{_≡_, refl, sym, ap, subst, _∙_}
 use mathlib.Core.Bool.{Bool, true, false, not, _||_, Bool·beq, true≢false}
 use mathlib.Core.List.{List}
 use native.Mathlib.Decide.{ℕ-discrete}
 use native.Mathlib.Numerals.{add-one}
 use native.Mathlib.Omega.{arith}
+use mir.Syntax.{w16, w64}
+use mir.Val.{Fits}
 use lib.ListN.{length, getD, set}
 use lib.Dec.{T, eqb, eqb→eq}
 use borrow.Author.Tests.{eq-eqb}
 use Rattle.arena.specs.Sets.{Set, least}
 use Rattle.arena.proofs.Tests.{holds, and-l, and-r}
 use Rattle.arena.proofs.Sets.{some-intro, count-pos, least-hit}
+use Rattle.game.specs.Limits.{maxStates}
 use Rattle.game.specs.Game.{marked, blockAt}
 use Rattle.game.specs.Arena.{goalOf}
 use Rattle.game.specs.Accepted.{Accepted}
@@ -83,6 +86,25 @@ module _ {g : Game} (ok : Accepted g) {side n m objective : ℕ} {turn starts fr
   pub few-made : made < 512
   few-made = omega (arith, few-splits, few-states (y .present))
 
+  pub twice-fits : Fits w64 (2 * made)
+  twice-fits = omega (arith, few-made)
+
+  pub due-fits : Fits w64 (2 * made + 1)
+  due-fits = omega (arith, few-made)
+
+  pub more-fits : Fits w64 (made + 1)
+  more-fits = omega (arith, few-made)
+
+  -- a row of 16-bit places is read at an offset of two bytes a place
+  pub made-offset : Fits w64 (made * 2)
+  made-offset = omega (arith, few-made)
+
+  pub in-log : {l k : ℕ} → maxStates ≤ k → l ≡ k → made < l
+  in-log h e = omega (arith, few-made)
+
+  pub clear-on : clear ≤ made + 1
+  clear-on = omega (arith, y .low)
+
   -- the hunting side surely has its way: the run ends here
   pub stop-caught : {allowance : ℕ} {lower₀ : List ℕ} {r : Bool} → made ≤ allowance → (made ≡ 0 → lower ≡ lower₀)
       → r ≡ hasWay (goalOf objective) n (λ s. marked 1 (getD starts s 0)) (isIn lower) → r ≡ true → Stopped g allowance lower₀ lower false made clear
@@ -146,12 +168,21 @@ module _ {g : Game} (ok : Accepted g) {side n m objective : ℕ} {turn starts fr
             go (At b) h = elim (ℕ-discrete made allowance) [ yes e ↦ absurd (true≢false (sym (eq-eqb made allowance e) ∙ h)) | no ne ↦ omega arith ]
             go Nothing h = absurd (true≢false h)
 
+        pub less-left : made ≤ allowance → allowance - (made + 1) < allowance - made
+        less-left within = omega (arith, allowed-more within)
+
+        pub allowed-next : made ≤ allowance → made + 1 ≤ allowance
+        allowed-next within = omega (arith, allowed-more within)
+
         pub next-here : Next (round made g) n block hit lower (foundBlock found)
         next-here = go found refl unfinished
           where
             go : (x : Border) → found ≡ x → (nothingFound x || eqb made allowance) ≡ false → Next (round made g) n block hit lower (foundBlock x)
             go (At b) z h = next-found (y .present) (y .lowered) found b answer z
             go Nothing z h = absurd (true≢false h)
+
+        pub next-fits : {b : ℕ} → b ≡ foundBlock found → Fits w16 b
+        next-fits e = omega (arith, next-here .state, few-states (y .present))
 
   -- ## The next round
 
@@ -222,6 +253,10 @@ module _ {g : Game} (ok : Accepted g) {side n m objective : ℕ} {turn starts fr
 
         name-here : c ≡ least n (apart (blockAt (round made g)) b (knownStates (round made g)))
         name-here = new-name (y .present) (y .lowered) (next .state) new ∙ ap (λ (k : ℕ). least k (apart (blockAt (round made g)) b (knownStates (round made g)))) (y .present .states-is)
+
+-- a split was made
+pub some-made : (k : ℕ) → k + 1 ≡ 0 → ⊥
+some-made k e = omega arith
 
 -- neither of two tests holds
 pub neither : (a b : Bool) {r : Bool} → r ≡ (a || b) → r ≡ false → (a ≡ false) × (b ≡ false)

@@ -5,7 +5,7 @@ use mathlib.Core.Bool.{Bool, true, false, not, _||_}
 use mathlib.Core.List.{List}
 use native.Mathlib.Omega.{arith}
 use lib.ListN.{getD}
-use lib.Dec.{eqb, eqb·suc-zero}
+use lib.Dec.{eqb}
 use Rattle.arena.specs.Sets.{Set, bit}
 use Rattle.arena.specs.Game.{Side}
 use Rattle.arena.specs.Win.{Goal, toReach, toStay}
@@ -16,10 +16,10 @@ use Rattle.game.specs.Game.{marked, blockAt, initials}
 use Rattle.game.specs.Arena.{sideOf, goalOf, arenaOf}
 use Rattle.game.specs.declared.Game.{Game}
 use Rattle.blocks.specs.Hunt.{insideStep, meetsStep, lower, upper}
-use Rattle.growth.specs.Stamp.{isIn, entered, passAt, passNo, stampFrom, stamp, joining}
+use Rattle.growth.specs.Stamp.{isIn, entered, passAt, stampFrom, stamp, joining}
 use Rattle.chains.specs.Lent.{Holds, Names, needOf, Lent}
 use Rattle.blocks.proofs.Hunt.{lower-upper}
-use Rattle.growth.proofs.Stamp.{stamp-cong}
+use Rattle.growth.proofs.Stamp.{entered-no, stamp-cong}
 use Rattle.growth.proofs.Says.{joining-mono}
 use Rattle.arena.proofs.Sets.{Sub}
 use Rattle.arena.proofs.Passes.{Mono, grow-le, grow-between}
@@ -79,13 +79,6 @@ module _ {g : Game} {side n m objective : ℕ} {turn starts from to last before 
   }
 
 -- ## Rows that have grown
-
--- a state that is in stays in, and one that joins is in
-entered-no : (own : ℕ) (j : Bool) (k : ℕ) → not (eqb (passNo own j (suc k)) 0) ≡ (not (eqb own 0) || j)
-unfolding passNo
-entered-no zero true k = rw (eqb·suc-zero k) refl
-entered-no zero false k = refl
-entered-no (suc own) j k = rw (eqb·suc-zero own) (rw (eqb·suc-zero own) refl)
 
 -- the set after k further passes
 entered-grow : (step : Set → Set) (f : ℕ → ℕ) (k : ℕ) → entered (stampFrom step f k) ≡ grow step (entered f) k
