@@ -6,7 +6,7 @@ use mathlib.Core.Logic.{_⊎_, inl, inr}
 use native.Mathlib.Omega.{arith}
 use lib.Dec.{T, lt→ltb}
 use Rattle.arena.specs.Sets.{Set, compl, imp, some, every}
-use Rattle.arena.specs.Game.{Side, one, two, other, same, Game, mine, Live, forced, flip}
+use Rattle.arena.specs.Arena.{Side, one, two, other, same, Arena, mine, Live, forced, flip}
 use Rattle.arena.specs.Passes.{grow, rank, nearer}
 use Rattle.arena.proofs.Tests.{decT, cond-cases, cond-yes, cond-no, or-cases, imp-not, and-not, not-not}
 use Rattle.arena.proofs.Sets.{Sub, compl-compl, some-intro, not-some, not-every, meets-in, meets-out, within-in, within-out, count-pos}
@@ -27,11 +27,11 @@ same-other two one = refl
 same-other two two = refl
 
 -- a state is the opponent's exactly where it is not side i's
-pub mine-other : (g : Game) (i : Side) (s : ℕ) → mine g (other i) s ≡ not (mine g i s)
+pub mine-other : (g : Arena) (i : Side) (s : ℕ) → mine g (other i) s ≡ not (mine g i s)
 mine-other g i s = same-other i (g .turn s)
 
 -- with the turns exchanged side i has the states of its opponent
-pub flip-mine : (g : Game) (i : Side) (s : ℕ) → mine (flip g) i s ≡ mine g (other i) s
+pub flip-mine : (g : Arena) (i : Side) (s : ℕ) → mine (flip g) i s ≡ mine g (other i) s
 unfolding flip
 flip-mine g i s = go i (g .turn s)
   where
@@ -42,26 +42,26 @@ flip-mine g i s = go i (g .turn s)
     go two two = refl
 
 -- with the turns exchanged side i forces what its opponent did
-pub flip-forced : (g : Game) (i : Side) → forced (flip g) i ≡ forced g (other i)
+pub flip-forced : (g : Arena) (i : Side) → forced (flip g) i ≡ forced g (other i)
 unfolding flip forced
 flip-forced g i = fun-ext (λ X. fun-ext (λ s. rw (flip-mine g i s)))
 
 -- with the turns exchanged each state still has a move
-pub flip-live : (g : Game) → Live g → Live (flip g)
+pub flip-live : (g : Arena) → Live g → Live (flip g)
 unfolding flip
 flip-live g live = live
 
 -- ## One forced step
 
 -- s has a move into X
-abbrev pub Can : Game → Set → ℕ → Type 0
+abbrev pub Can : Arena → Set → ℕ → Type 0
 Can g X s = (t : ℕ) × (t < g .size) × T (g .move s t) × T (X t)
 
 -- s has no move but into X
-abbrev pub Must : Game → Set → ℕ → Type 0
+abbrev pub Must : Arena → Set → ℕ → Type 0
 Must g X s = (t : ℕ) → t < g .size → T (g .move s t) → T (X t)
 
-module _ (g : Game) (i : Side) where
+module _ (g : Arena) (i : Side) where
   -- a forced step is a move of side i's own, or all moves of its opponent
   pub forced-out : (X : Set) (s : ℕ) → T (forced g i X s) → (T (mine g i s) × Can g X s) ⊎ ((T (mine g i s) → ⊥) × Must g X s)
   unfolding forced
@@ -104,7 +104,7 @@ module _ (g : Game) (i : Side) where
 
 -- ## Passes that add nothing but forced steps
 
-module _ (g : Game) (i : Side) (F : Set → Set) (sound : (X : Set) → Sub (g .size) (F X) (forced g i X)) (A : Set) where
+module _ (g : Arena) (i : Side) (F : Set → Set) (sound : (X : Set) → Sub (g .size) (F X) (forced g i X)) (A : Set) where
   -- from a state of any pass outside A side i can force the play nearer
   pub rank-step : (k s : ℕ) → k ≤ g .size → s < g .size → T (grow F A k s) → T (A s) ⊎ T (forced g i (nearer (g .size) F A s) s)
   unfolding grow

@@ -9,3 +9,4 @@ pub mod Moves
 pub mod Readings
 pub mod Choices
 pub mod Least
+pub mod ByRow

@@ -6,7 +6,7 @@ use mathlib.Core.Logic.{inl, inr, _↔_}
 use native.Mathlib.Omega.{arith}
 use lib.Dec.{T, T-not, not-T}
 use Rattle.arena.specs.Sets.{Set, compl}
-use Rattle.arena.specs.Game.{Side, other, Game, forced}
+use Rattle.arena.specs.Arena.{Side, other, Arena, forced}
 use Rattle.arena.specs.Win.{Goal, toReach, toStay, reachIn, stayFor, ByMoves}
 use Rattle.arena.specs.Passes.{grow}
 use Rattle.arena.proofs.Tests.{or-l, or-r, or-cases, not-not, nor}
@@ -15,7 +15,7 @@ use Rattle.arena.proofs.Passes.{grow-le, grow-rest}
 use Rattle.arena.proofs.Forced.{forced-mono, forced-dual}
 use Rattle.arena.proofs.Win.{reach, hold, region}
 
-module _ (g : Game) (i : Side) (A : Set) where
+module _ (g : Arena) (i : Side) (A : Set) where
   -- what wins in k moves wins in one more
   pub reachIn-more : (k : ℕ) → Sub (g .size) (reachIn g i A k) (reachIn g i A (suc k))
   unfolding reachIn
@@ -60,7 +60,7 @@ module _ (g : Game) (i : Side) (A : Set) where
       let R = reachIn g (other i) (compl A) k in
       fun-ext (λ s. rw (stayFor-other k) (rw (forced-dual g i R s) (rw (not-not (A s)) at (nor (not (A s)) (forced g (other i) R s)))))
 
-module _ (g : Game) (i : Side) (A : Set) where
+module _ (g : Arena) (i : Side) (A : Set) where
   -- the states where side i can keep the play in A for every number of moves are those of hold
   pub hold-moves : (s : ℕ) → s < g .size → ((k : ℕ) → T (stayFor g i A k s)) ↔ T (hold g i A s)
   unfolding hold
@@ -73,6 +73,6 @@ module _ (g : Game) (i : Side) (A : Set) where
       )
 
 -- the winning region is 01's reading by numbers of moves
-pub region-moves : (g : Game) (i : Side) (o : Goal) (A : Set) (s : ℕ) → s < g .size → ByMoves g i o A s ↔ T (region g i o A s)
+pub region-moves : (g : Arena) (i : Side) (o : Goal) (A : Set) (s : ℕ) → s < g .size → ByMoves g i o A s ↔ T (region g i o A s)
 region-moves g i toReach A s l = reach-moves g i A s l
 region-moves g i toStay A s l = hold-moves g i A s l

@@ -4,7 +4,7 @@ use mathlib.Core.Path.{_∙_, sym, ap, subst}
 use mathlib.Core.Logic.{_⊎_, inl, inr, _↔_, Iff·symm, Iff·trans}
 use lib.Dec.{T, T-not, not-T}
 use Rattle.arena.specs.Sets.{Set, compl}
-use Rattle.arena.specs.Game.{Side, Game, Live, flip}
+use Rattle.arena.specs.Arena.{Side, Arena, Live, flip}
 use Rattle.arena.specs.Win.{Goal, swapGoal, objective, Winning, Spoils, ByMoves}
 use Rattle.arena.proofs.Tests.{decT}
 use Rattle.arena.proofs.Forced.{flip-live}
@@ -12,12 +12,12 @@ use Rattle.arena.proofs.Win.{region, region-other, flip-region, region-
 use Rattle.arena.proofs.Moves.{region-moves}
 
 -- a strategy over histories that wins against every opposing one exists exactly where 01's reading by numbers of moves says so
-pub readings-agree : (g : Game) → Live g → (i : Side) (o : Goal) (A : Set) (s : ℕ) → s < g .size
+pub readings-agree : (g : Arena) → Live g → (i : Side) (o : Goal) (A : Set) (s : ℕ) → s < g .size
     → Winning g i (objective o A) s ↔ ByMoves g i o A s
 readings-agree g live i o A s l = Iff·trans (winning-region g live i o A s l) (Iff·symm (region-moves g i o A s l))
 
 -- each state is decided: side i can win from it, or its opponent can spoil
-pub decided : (g : Game) → Live g → (i : Side) (o : Goal) (A : Set) (s : ℕ) → s < g .size
+pub decided : (g : Arena) → Live g → (i : Side) (o : Goal) (A : Set) (s : ℕ) → s < g .size
     → Winning g i (objective o A) s ⊎ Spoils g i (objective o A) s
 decided g live i o A s l = elim (decT (region g i o A s)) [
   | inl h ↦ inl (region-wins g live i o A s l h)
@@ -25,7 +25,7 @@ decided g live i o A s l = elim (decT (region g i o A s)) [
 ]
 
 -- what side i cannot win its opponent can spoil, and nobody can do both
-pub spoiled : (g : Game) → Live g → (i : Side) (o : Goal) (A : Set) (s : ℕ) → s < g .size
+pub spoiled : (g : Arena) → Live g → (i : Side) (o : Goal) (A : Set) (s : ℕ) → s < g .size
     → (Winning g i (objective o A) s → ⊥) ↔ Spoils g i (objective o A) s
 spoiled g live i o A s l = (
   (λ n. elim (decided g live i o A s l) [ inl w ↦ absurd (n w) | inr v ↦ v ]),
@@ -34,7 +34,7 @@ spoiled g live i o A s l = (
 
 -- demand 3: flip whose turn each state is, take the other states as target, and turn reach into stay or stay into reach;
 -- the states side i can win are then exactly those it could not win before
-pub flipped : (g : Game) → Live g → (i : Side) (o : Goal) (A : Set) (s : ℕ) → s < g .size
+pub flipped : (g : Arena) → Live g → (i : Side) (o : Goal) (A : Set) (s : ℕ) → s < g .size
     → Winning (flip g) i (objective (swapGoal o) (compl A)) s ↔ (Winning g i (objective o A) s → ⊥)
 unfolding flip
 flipped g live i o A s l =

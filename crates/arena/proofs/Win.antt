@@ -7,7 +7,7 @@ use native.Mathlib.Nat.{le-refl}
 use native.Mathlib.Omega.{arith}
 use lib.Dec.{T, T-not, not-T}
 use Rattle.arena.specs.Sets.{Set, compl}
-use Rattle.arena.specs.Game.{Side, other, Game, Live, forced, flip}
+use Rattle.arena.specs.Arena.{Side, other, Arena, Live, forced, flip}
 use Rattle.arena.specs.Play.{Strategy, Play, Follows, outcome}
 use Rattle.arena.specs.Win.{Objective, Reach, Stay, Goal, toReach, toStay, swapGoal, objective, Winning, Spoils}
 use Rattle.arena.specs.Passes.{grow, nearer}
@@ -20,19 +20,19 @@ use Rattle.arena.proofs.Plays.{outcome-play, outcome-mine, outcome-thei
 -- ## The fixed points
 
 -- the states from which side i can bring the play into A
-unfoldable pub reach : Game → Side → Set → Set
+unfoldable pub reach : Arena → Side → Set → Set
 reach g i A = grow (forced g i) A (g .size)
 
 -- the states from which side i can keep the play in A
-unfoldable pub hold : Game → Side → Set → Set
+unfoldable pub hold : Arena → Side → Set → Set
 hold g i A s = not (reach g (other i) (compl A) s)
 
 -- the winning region of side i for a goal and a target
-abbrev pub region : Game → Side → Goal → Set → Set
+abbrev pub region : Arena → Side → Goal → Set → Set
 region g i toReach A = reach g i A
 region g i toStay A = hold g i A
 
-module _ (g : Game) (i : Side) (A : Set) where
+module _ (g : Arena) (i : Side) (A : Set) where
   -- the target lies in reach
   pub reach-target : (s : ℕ) → T (A s) → T (reach g i A s)
   unfolding reach grow
@@ -50,7 +50,7 @@ module _ (g : Game) (i : Side) (A : Set) where
   unfolding hold
   hold-other s = rw (other-other i, compl-compl A)
 
-module _ (g : Game) (i : Side) (A : Set) where
+module _ (g : Arena) (i : Side) (A : Set) where
   -- hold lies in the target
   pub hold-target : (s : ℕ) → T (hold g i A s) → T (A s)
   unfolding hold
@@ -69,20 +69,20 @@ module _ (g : Game) (i : Side) (A : Set) where
   flip-reach = ap (λ (F : Set → Set). grow F A (g .size)) (flip-forced g i)
 
 -- the opponent wins the opposite goal exactly outside the region
-pub region-other : (g : Game) (i : Side) (o : Goal) (A : Set) (s : ℕ) → region g (other i) (swapGoal o) (compl A) s ≡ not (region g i o A s)
+pub region-other : (g : Arena) (i : Side) (o : Goal) (A : Set) (s : ℕ) → region g (other i) (swapGoal o) (compl A) s ≡ not (region g i o A s)
 unfolding hold
 region-other g i toReach A s = hold-other g i A s
 region-other g i toStay A s = sym (not-not (reach g (other i) (compl A) s))
 
 -- with the turns exchanged side i has its opponent's region
-pub flip-region : (g : Game) (i : Side) (o : Goal) (A : Set) → region (flip g) i o A ≡ region g (other i) o A
+pub flip-region : (g : Arena) (i : Side) (o : Goal) (A : Set) → region (flip g) i o A ≡ region g (other i) o A
 unfolding hold
 flip-region g i toReach A = flip-reach g i A
 flip-region g i toStay A = ap compl (flip-reach g (other i) (compl A))
 
 -- ## A strategy for each goal, and what it does to every play that follows it
 
-module _ (g : Game) (live : Live g) (i : Side) (A : Set) where
+module _ (g : Arena) (live : Live g) (i : Side) (A : Set) where
   -- to reach: always nearer to the target
   unfoldable pub reacher : Strategy g i
   reacher = memoryless g live i (nearer (g .size) (forced g i) A)
@@ -130,11 +130,11 @@ opposed toReach A p w h = T-not (A (p (w .0))) (h (w .0)) (w .1)
 opposed toStay A p h w = T-not (A (p (w .0))) (w .1) (h (w .0))
 
 -- no state is both won and spoiled: the two strategies would meet in one outcome
-pub not-both : (g : Game) (i : Side) (Φ : Objective) (s : ℕ) → Winning g i Φ s → Spoils g i Φ s → ⊥
+pub not-both : (g : Arena) (i : Side) (Φ : Objective) (s : ℕ) → Winning g i Φ s → Spoils g i Φ s → ⊥
 unfolding Winning Spoils
 not-both g i Φ s w v = v .1 (w .0) (w .1 (v .0))
 
-module _ (g : Game) (live : Live g) (i : Side) (o : Goal) (A : Set) (s : ℕ) (l : s < g .size) where
+module _ (g : Arena) (live : Live g) (i : Side) (o : Goal) (A : Set) (s : ℕ) (l : s < g .size) where
   -- in the region side i wins
   pub region-wins : T (region g i o A s) → Winning g i (objective o A) s
   unfolding Winning outcome

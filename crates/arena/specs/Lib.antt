@@ -1,5 +1,6 @@
 pub mod Sets
-pub mod Game
+pub mod Arena
 pub mod Play
 pub mod Win
 pub mod Passes
+pub mod Plan

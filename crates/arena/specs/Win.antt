@@ -3,7 +3,7 @@ use Prim.Native.Nat.{ℕ, zero, suc}
 use mathlib.Core.Bool.{_&&_, _||_}
 use lib.Dec.{T}
 use Rattle.arena.specs.Sets.{Set}
-use Rattle.arena.specs.Game.{Side, other, Game, forced}
+use Rattle.arena.specs.Arena.{Side, other, Arena, forced}
 use Rattle.arena.specs.Play.{Strategy, outcome}
 
 -- 000, definition 2: an objective, a set of sequences of states
@@ -18,7 +18,7 @@ Reach A p = (k : ℕ) × T (A (p k))
 abbrev pub Stay : Set → Objective
 Stay A p = (k : ℕ) → T (A (p k))
 
--- 01, 'What is built' and 'Game file': the two kinds of objective, reach and stay
+-- 01, 'What is built' and 'Arena file': the two kinds of objective, reach and stay
 pub data Goal : Type 0 where
   toReach toStay : Goal
 
@@ -33,24 +33,24 @@ objective toReach A = Reach A
 objective toStay A = Stay A
 
 -- 000, definition 6: some strategy of side i has, against every opposing one, its outcome from s in Φ
-unfoldable pub Winning : Game → Side → Objective → ℕ → Type 0
+unfoldable pub Winning : Arena → Side → Objective → ℕ → Type 0
 Winning g i Φ s = (σ : Strategy g i) × ((τ : Strategy g (other i)) → Φ (outcome g i σ τ s))
 
 -- 000, section 2, 'Otherwise player 2 wins': some strategy of the opponent has, against every one of side i, its outcome not in Φ
-unfoldable pub Spoils : Game → Side → Objective → ℕ → Type 0
+unfoldable pub Spoils : Arena → Side → Objective → ℕ → Type 0
 Spoils g i Φ s = (τ : Strategy g (other i)) × ((σ : Strategy g i) → Φ (outcome g i σ τ s) → ⊥)
 
 -- 01, 'The game': in the target, or in the forced-step set of states that win in fewer moves; at most k moves
-unfoldable pub reachIn : Game → Side → Set → ℕ → Set
+unfoldable pub reachIn : Arena → Side → Set → ℕ → Set
 reachIn g i A zero s = A s
 reachIn g i A (suc k) s = A s || forced g i (reachIn g i A k) s
 
 -- 01, 'The game': side i can keep the play in the target for k moves
-unfoldable pub stayFor : Game → Side → Set → ℕ → Set
+unfoldable pub stayFor : Arena → Side → Set → ℕ → Set
 stayFor g i A zero s = A s
 stayFor g i A (suc k) s = A s && forced g i (stayFor g i A k) s
 
 -- 01, 'The game': which states win: reach in some number of moves, stay for every number of moves
-abbrev pub ByMoves : Game → Side → Goal → Set → ℕ → Type 0
+abbrev pub ByMoves : Arena → Side → Goal → Set → ℕ → Type 0
 ByMoves g i toReach A s = (k : ℕ) × T (reachIn g i A k s)
 ByMoves g i toStay A s = (k : ℕ) → T (stayFor g i A k s)

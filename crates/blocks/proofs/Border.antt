@@ -7,24 +7,43 @@ use native.Mathlib.Nat.{le-refl}
 use native.Mathlib.Omega.{arith}
 use lib.Dec.{T, T-not, not-T, eqb, eqb→eq, eqb-refl}
 use Rattle.arena.specs.Sets.{Set, compl, some, least}
-use Rattle.arena.specs.Game.{Side, Game, forced}
+use Rattle.arena.specs.Arena.{Side, Arena, forced}
 use Rattle.arena.specs.Win.{Goal, toReach, toStay}
 use Rattle.arena.specs.Passes.{grow}
 use Rattle.arena.proofs.Tests.{decT, and-intro, and-l, and-r, or-cases}
 use Rattle.arena.proofs.Sets.{Sub, compl-compl, some-intro, some-elim, meets-out, least-some, least-le}
 use Rattle.arena.proofs.Passes.{grow-le}
 use Rattle.blocks.specs.Blocks.{meets, isBlock}
-use Rattle.blocks.specs.Round.{undecided, known, border, borderBlock}
-use Rattle.blocks.specs.Hunt.{hunter, prey, meetsStep, lower, upper}
+use Rattle.blocks.specs.Round.{meetsStep, openMeeting, undecided, intoKnown, border, borderBlock}
+use Rattle.blocks.specs.Hunt.{hunter, prey, lower, upper}
 use Rattle.blocks.proofs.Blocks.{Named, mates, Whole, inside-dual, meets-whole, compl-whole, both-whole}
 use Rattle.blocks.proofs.Hunt.{meetsStep-mono, lower-target, lower-closed, lower-whole, upper-whole, known-hunter, undecided-hunter}
 
 -- ## The border in the hunter's view
 
-module _ (g : Game) (block : ℕ → ℕ) (i : Side) (A : Set) where
+module _ (g : Arena) (block : ℕ → ℕ) (i : Side) (A : Set) where
   -- the open blocks that meet side i's forced step to what it surely brings in
   abbrev pub edge : Set
-  edge s = (upper g block i A s && not (lower g block i A s)) && meets (g .size) block (forced g i (lower g block i A)) s
+  edge = openMeeting g block (λ s. upper g block i A s && not (lower g block i A s)) (forced g i (lower g block i A))
+
+  -- a block on the edge has members inside the forced step and outside it
+  pub edge-splits : (s : ℕ) → s < g .size → T (edge s)
+      → ((t : ℕ) × (t < g .size) × T (mates block s t) × T (forced g i (lower g block i A) t))
+      × ((t : ℕ) × (t < g .size) × T (mates block s t) × T (not (forced g i (lower g block i A) t)))
+  unfolding meets
+  edge-splits s l h =
+      let n = g .size in
+      let L = lower g block i A in
+      let C = forced g i L in
+      let m : T (meets n block C s) = search (and-l, and-r) in
+      let q : T (not (L s)) = search (and-l, and-r) in (
+        meets-out n (mates block s) C m,
+        elim (decT (meets n block (compl C) s)) [
+          | inl y ↦ meets-out n (mates block s) (compl C) y
+          | inr o ↦ absurd (T-not (L s) q (lower-closed g block i A s l
+              (rw (compl-compl C) at (rw (← (inside-dual n block (compl C) s)) at (not-T (meets n block (compl C) s) o)))))
+        ],
+      )
 
   -- where no block is on the edge, every pass adds only what is surely brought in
   no-edge : (T (some (g .size) edge) → ⊥) → (k : ℕ) → k ≤ g .size → Sub (g .size) (grow (meetsStep g block i) A k) (lower g block i A)
@@ -53,35 +72,16 @@ module _ (g : Game) (block : ℕ → ℕ) (i : Side) (A : Set) where
         (no-edge none (g .size) (le-refl (g .size)) s l (and-l (upper g block i A s) (not (lower g block i A s)) h)))
   ]
 
-  -- a block on the edge has members inside the forced step and outside it
-  pub edge-splits : (s : ℕ) → s < g .size → T (edge s)
-      → ((t : ℕ) × (t < g .size) × T (mates block s t) × T (forced g i (lower g block i A) t))
-      × ((t : ℕ) × (t < g .size) × T (mates block s t) × T (not (forced g i (lower g block i A) t)))
-  unfolding meets
-  edge-splits s l h =
-      let n = g .size in
-      let L = lower g block i A in
-      let C = forced g i L in
-      let m : T (meets n block C s) = search (and-l, and-r) in
-      let q : T (not (L s)) = search (and-l, and-r) in (
-        meets-out n (mates block s) C m,
-        elim (decT (meets n block (compl C) s)) [
-          | inl y ↦ meets-out n (mates block s) (compl C) y
-          | inr o ↦ absurd (T-not (L s) q (lower-closed g block i A s l
-              (rw (compl-compl C) at (rw (← (inside-dual n block (compl C) s)) at (not-T (meets n block (compl C) s) o)))))
-        ],
-      )
-
 -- ## The border of 01
 
 -- b is the lowest-numbered border block
-pub record LowestBorder (g : Game) (block : ℕ → ℕ) (o : Goal) (A : Set) (b : ℕ) : Type 0 where
+pub record LowestBorder (g : Arena) (block : ℕ → ℕ) (o : Goal) (A : Set) (b : ℕ) : Type 0 where
   pub state : b < g .size
   pub name : block b ≡ b
   pub on-border : T (border g block o A b)
   pub lowest : (s : ℕ) → s < g .size → T (border g block o A s) → b ≤ block s
 
-module _ (g : Game) (block : ℕ → ℕ) (o : Goal) (A : Set) where
+module _ (g : Arena) (block : ℕ → ℕ) (o : Goal) (A : Set) where
   -- the border is the edge of the side that hunts
   pub border-edge : (s : ℕ) → border g block o A s ≡ edge g block (hunter o) (prey o A) s
   unfolding border
@@ -96,8 +96,8 @@ module _ (g : Game) (block : ℕ → ℕ) (o : Goal) (A : Set) where
 
   -- a border block has members in the known set and outside it
   pub border-splits : (s : ℕ) → s < g .size → T (border g block o A s)
-      → ((t : ℕ) × (t < g .size) × T (mates block s t) × T (known g block o A t))
-      × ((t : ℕ) × (t < g .size) × T (mates block s t) × T (not (known g block o A t)))
+      → ((t : ℕ) × (t < g .size) × T (mates block s t) × T (intoKnown g block o A t))
+      × ((t : ℕ) × (t < g .size) × T (mates block s t) × T (not (intoKnown g block o A t)))
   border-splits s l h = rw (known-hunter g block A o) (edge-splits g block (hunter o) (prey o A) s l (rw (border-edge s) at h))
 
   -- the prey is a union of whole blocks where the target is
@@ -122,8 +122,8 @@ module _ (g : Game) (block : ℕ → ℕ) (o : Goal) (A : Set) where
   pub border-whole : Whole (g .size) block A → Whole (g .size) block (border g block o A)
   unfolding border
   border-whole a =
-      both-whole (g .size) block (undecided g block o A) (meets (g .size) block (known g block o A)) (undecided-whole a)
-      (meets-whole (g .size) block (known g block o A))
+      both-whole (g .size) block (undecided g block o A) (meets (g .size) block (intoKnown g block o A)) (undecided-whole a)
+      (meets-whole (g .size) block (intoKnown g block o A))
 
   -- where some state is open, the block that 01 names is the lowest-numbered border block
   pub border-block : Named (g .size) block → Whole (g .size) block A → (s : ℕ) → s < g .size → T (undecided g block o A s)

@@ -5,7 +5,7 @@ use mathlib.Core.Bool.{not, _&&_, and-comm}
 use native.Mathlib.Omega.{arith}
 use lib.Dec.{T}
 use Rattle.arena.specs.Sets.{Set, compl, least}
-use Rattle.arena.specs.Game.{Side, one, two, other, Game, forced}
+use Rattle.arena.specs.Arena.{Side, one, two, other, Arena, forced}
 use Rattle.arena.specs.Win.{Goal, toReach, toStay}
 use Rattle.arena.specs.Passes.{grow, rank}
 use Rattle.arena.proofs.Tests.{or-r, contra, not-not}
@@ -14,13 +14,17 @@ use Rattle.arena.proofs.Passes.{Mono, grow-le, grow-sub, grow-stable, shrink-gr
 use Rattle.arena.proofs.Forced.{forced-mono, forced-other, forced-dual}
 use Rattle.arena.proofs.Win.{reach}
 use Rattle.blocks.specs.Blocks.{inside, meets}
-use Rattle.blocks.specs.Round.{sure, possible, undecided, known, enteredSure, leftPossible}
-use Rattle.blocks.specs.Hunt.{hunter, prey, insideStep, meetsStep, lower, upper}
+use Rattle.blocks.specs.Round.{sure, possible, undecided, intoKnown, enteredSure, leftPossible, insideStep, meetsStep}
+use Rattle.blocks.specs.Hunt.{hunter, prey, lower, upper}
 use Rattle.blocks.proofs.Blocks.{Whole, inside-sub, sub-meets, inside-mono, meets-mono, inside-dual, meets-dual, inside-whole, meets-whole, grow-whole}
 
 -- ## One pass
 
-module _ (g : Game) (block : ℕ → ℕ) (i : Side) where
+module _ (g : Arena) (block : ℕ → ℕ) (i : Side) where
+  -- a block wholly inside the forced-step set has only states that can force the step
+  pub insideStep-sound : (X : Set) → Sub (g .size) (insideStep g block i X) (forced g i X)
+  insideStep-sound X = inside-sub (g .size) block (forced g i X)
+
   -- from a larger set the blocks inside the forced-step set are no fewer
   pub insideStep-mono : Mono (g .size) (insideStep g block i)
   insideStep-mono X Y h = inside-mono (g .size) block (forced g i X) (forced g i Y) (forced-mono g i X Y h)
@@ -28,10 +32,6 @@ module _ (g : Game) (block : ℕ → ℕ) (i : Side) where
   -- from a larger set the blocks that meet the forced-step set are no fewer
   pub meetsStep-mono : Mono (g .size) (meetsStep g block i)
   meetsStep-mono X Y h = meets-mono (g .size) block (forced g i X) (forced g i Y) (forced-mono g i X Y h)
-
-  -- a block wholly inside the forced-step set has only states that can force the step
-  pub insideStep-sound : (X : Set) → Sub (g .size) (insideStep g block i X) (forced g i X)
-  insideStep-sound X = inside-sub (g .size) block (forced g i X)
 
   -- a state that can force the step lies in a block that meets the forced-step set
   pub meetsStep-covers : (X : Set) → Sub (g .size) (forced g i X) (meetsStep g block i X)
@@ -49,7 +49,7 @@ module _ (g : Game) (block : ℕ → ℕ) (i : Side) where
 
 -- ## All passes
 
-module _ (g : Game) (block : ℕ → ℕ) (i : Side) (A : Set) where
+module _ (g : Arena) (block : ℕ → ℕ) (i : Side) (A : Set) where
   -- the prey is surely brought in
   pub lower-target : (s : ℕ) → T (A s) → T (lower g block i A s)
   unfolding lower grow
@@ -103,7 +103,7 @@ module _ (g : Game) (block : ℕ → ℕ) (i : Side) (A : Set) where
 
 -- ## 01's words in the hunter's view
 
-module _ (g : Game) (block : ℕ → ℕ) (A : Set) where
+module _ (g : Arena) (block : ℕ → ℕ) (A : Set) where
   -- reach: sure is what side 1 surely brings into the target
   pub sure-reach : sure g block toReach A ≡ lower g block one A
   unfolding sure lower
@@ -141,8 +141,8 @@ module _ (g : Game) (block : ℕ → ℕ) (A : Set) where
       ∙ not-not (grow (insideStep g block two) (compl A) k s)))
 
   -- the set by which a border block is split: the hunter's forced step to what it surely brings in
-  pub known-hunter : (o : Goal) → known g block o A ≡ forced g (hunter o) (lower g block (hunter o) (prey o A))
-  unfolding known
+  pub known-hunter : (o : Goal) → intoKnown g block o A ≡ forced g (hunter o) (lower g block (hunter o) (prey o A))
+  unfolding intoKnown
   known-hunter toReach = ap (forced g one) sure-reach
   known-hunter toStay = ap (forced g two) never-stay
 

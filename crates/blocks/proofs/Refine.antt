@@ -6,13 +6,15 @@ use native.Mathlib.Omega.{arith}
 use lib.Dec.{T, eqb, eqb→eq}
 use borrow.Author.Tests.{eq-eqb}
 use Rattle.arena.specs.Sets.{Set, least}
-use Rattle.arena.specs.Game.{Side, Game, forced}
+use Rattle.arena.specs.Arena.{Side, Arena, forced}
 use Rattle.arena.proofs.Tests.{holds, and-intro, and-l, cond-ind}
 use Rattle.arena.proofs.Sets.{Sub, meets-in, meets-out, within-in, within-out, least-hit}
 use Rattle.arena.proofs.Passes.{grow-sub}
 use Rattle.arena.proofs.Least.{least-unique, least-cong}
-use Rattle.blocks.specs.Blocks.{inside, meets, split}
-use Rattle.blocks.specs.Hunt.{insideStep, meetsStep, lower, upper}
+use Rattle.blocks.specs.Blocks.{part, inside, meets, split}
+use Rattle.blocks.specs.Round.{insideStep, meetsStep}
+use Rattle.blocks.specs.Hunt.{lower, upper}
+use Rattle.blocks.specs.Parts.{apart}
 use Rattle.blocks.proofs.Blocks.{Named, mates}
 use Rattle.blocks.proofs.Hunt.{insideStep-mono, meetsStep-mono, lower-upper, upper-closed}
 
@@ -39,7 +41,7 @@ module _ (n : ℕ) (block finer : ℕ → ℕ) (fine : Refines n finer block) wh
       let w = meets-out n (mates finer s) X h in
       meets-in n (mates block s) X (w .0) (w .1) (mates-refine s (w .0) l (w .1) (w .2)) (w .3)
 
-module _ (g : Game) (block finer : ℕ → ℕ) (fine : Refines (g .size) finer block) (i : Side) (A : Set) where
+module _ (g : Arena) (block finer : ℕ → ℕ) (fine : Refines (g .size) finer block) (i : Side) (A : Set) where
   -- what is surely brought in by blocks is so by finer ones
   pub lower-refine : Sub (g .size) (lower g block i A) (lower g finer i A)
   unfolding lower
@@ -55,16 +57,12 @@ module _ (g : Game) (block finer : ℕ → ℕ) (fine : Refines (g .size) finer 
       (meetsStep-mono g block i) A A (λ s l x. x) (g .size)
 
 -- a block that meets the forced step to what is surely brought in may be brought in
-pub meets-upper : (g : Game) (block : ℕ → ℕ) (i : Side) (A : Set)
+pub meets-upper : (g : Arena) (block : ℕ → ℕ) (i : Side) (A : Set)
     → Sub (g .size) (meets (g .size) block (forced g i (lower g block i A))) (upper g block i A)
 meets-upper g block i A s l h =
     upper-closed g block i A s l (meetsStep-mono g block i (lower g block i A) (upper g block i A) (lower-upper g block i A) s l h)
 
 -- ## A split, and how it is undone
-
--- the members of block b that lie in C unlike b itself: the part that gets a new name
-abbrev pub apart : (ℕ → ℕ) → ℕ → Set → Set
-apart block b C t = eqb (block t) b && not (Bool·beq (C t) (C b))
 
 -- likeness goes both ways
 beq-comm : (a b : Bool) → Bool·beq a b ≡ Bool·beq b a
@@ -90,11 +88,11 @@ module _ (n : ℕ) (block : ℕ → ℕ) (ok : Named n block) (b : ℕ) (low : b
   split-is s l = go (eqb (block s) b) refl (Bool·beq (C s) (C b)) refl
     where
       go : (x : Bool) → eqb (block s) b ≡ x → (y : Bool) → Bool·beq (C s) (C b) ≡ y
-          → cond x (least n (λ t. eqb (block t) b && Bool·beq (C t) (C s))) (block s) ≡ cond (x && not y) c (block s)
+          → cond x (least n (part block b C s)) (block s) ≡ cond (x && not y) c (block s)
       go false p y q = refl
       go true p false q = least-cong n _ _ (λ t k. ap (λ x. eqb (block t) b && x) (beq-unlike (C s) (C b) q (C t))) ∙ sym new
       go true p true q =
-          least-unique n (λ t. eqb (block t) b && Bool·beq (C t) (C s)) b low
+          least-unique n (part block b C s) b low
           (and-intro (eqb (block b) b) (Bool·beq (C b) (C s)) (rw (eq-eqb (block b) b name) tt) (rw (beq-comm (C b) (C s), q) tt))
           (λ t k h. omega (arith, ok .down t k, eqb→eq (block t) b (and-l (eqb (block t) b) (Bool·beq (C t) (C s)) h)))
           ∙ sym (eqb→eq (block s) b (rw p tt))

@@ -2,7 +2,7 @@
 use Prim.Native.Nat.{ℕ, _<_}
 use lib.Dec.{T}
 use Rattle.arena.specs.Sets.{Set, compl}
-use Rattle.arena.specs.Game.{one, two, Game, Live}
+use Rattle.arena.specs.Arena.{one, two, Arena, Live}
 use Rattle.arena.specs.Win.{Goal, toReach, toStay, objective, Winning, Spoils}
 use Rattle.arena.proofs.Tests.{contra}
 use Rattle.arena.proofs.Sets.{Sub}
@@ -11,7 +11,7 @@ use Rattle.blocks.specs.Round.{sure, possible}
 use Rattle.blocks.specs.Hunt.{lower, upper}
 use Rattle.blocks.proofs.Hunt.{lower-reach, reach-upper, sure-reach, possible-reach, sure-stay, possible-stay}
 
-module _ (g : Game) (block : ℕ → ℕ) (A : Set) where
+module _ (g : Arena) (block : ℕ → ℕ) (A : Set) where
   -- 000, section 4: sure states, under-approximated, lie in the winning region
   pub sure-region : (o : Goal) → Sub (g .size) (sure g block o A) (region g one o A)
   unfolding hold

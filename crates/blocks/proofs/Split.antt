@@ -10,12 +10,8 @@ use borrow.Author.Tests.{eq-eqb, ne-eqb}
 use Rattle.arena.specs.Sets.{Set, bit, count, least}
 use Rattle.arena.proofs.Tests.{decT, is-true, and-intro, and-l, and-r}
 use Rattle.arena.proofs.Sets.{lt-suc-cases, least-in, least-le, count-le}
-use Rattle.blocks.specs.Blocks.{isBlock, blockCount, split}
+use Rattle.blocks.specs.Blocks.{part, isBlock, blockCount, split}
 use Rattle.blocks.proofs.Blocks.{Named}
-
--- the members of block b that lie in C alike with s
-abbrev pub part : (ℕ → ℕ) → ℕ → Set → ℕ → Set
-part block b C s t = eqb (block t) b && Bool·beq (C t) (C s)
 
 -- a test is like itself
 beq-refl : (b : Bool) → T (Bool·beq b b)

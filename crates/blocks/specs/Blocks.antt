@@ -20,6 +20,10 @@ isBlock block b = eqb (block b) b
 unfoldable pub blockCount : ℕ → (ℕ → ℕ) → ℕ
 blockCount n block = count n (isBlock block)
 
+-- 01, 'One round': the members of block b that lie inside C, or outside it, as s does
+abbrev pub part : (ℕ → ℕ) → ℕ → Set → ℕ → Set
+part block b C s t = eqb (block t) b && Bool·beq (C t) (C s)
+
 -- 01, 'One round': block b is split into the members inside C and the others; each part is named by its lowest member
 unfoldable pub split : ℕ → (ℕ → ℕ) → ℕ → Set → ℕ → ℕ
-split n block b C s = cond (eqb (block s) b) (least n (λ t. eqb (block t) b && Bool·beq (C t) (C s))) (block s)
+split n block b C s = cond (eqb (block s) b) (least n (part block b C s)) (block s)

@@ -1,3 +1,4 @@
 pub mod Blocks
 pub mod Round
 pub mod Hunt
+pub mod Parts

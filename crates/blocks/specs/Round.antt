@@ -2,7 +2,7 @@
 use Prim.Native.Nat.{ℕ, suc}
 use mathlib.Core.Bool.{not, _&&_}
 use Rattle.arena.specs.Sets.{Set, compl, least}
-use Rattle.arena.specs.Game.{one, two, Game, forced}
+use Rattle.arena.specs.Arena.{Side, one, two, Arena, forced}
 use Rattle.arena.specs.Win.{Goal, toReach, toStay}
 use Rattle.arena.specs.Passes.{grow, shrink}
 use Rattle.blocks.specs.Blocks.{inside, meets, isBlock}
@@ -13,23 +13,27 @@ abbrev pub passes : Goal → (Set → Set) → Set → ℕ → Set
 passes toReach step A k = grow step A k
 passes toStay step A k = shrink step A k
 
-module _ (g : Game) (block : ℕ → ℕ) where
-  -- 01, 'One round': the blocks wholly inside side 1's forced-step set of X
-  abbrev pub sureStep : Set → Set
-  sureStep X = inside (g .size) block (forced g one X)
+module _ (g : Arena) (block : ℕ → ℕ) where
+  -- 01, 'One round': the blocks wholly inside side i's forced-step set of X
+  abbrev pub insideStep : Side → Set → Set
+  insideStep i X = inside (g .size) block (forced g i X)
 
-  -- 01, 'One round': the blocks that meet side 1's forced-step set of X
-  abbrev pub possibleStep : Set → Set
-  possibleStep X = meets (g .size) block (forced g one X)
+  -- 01, 'One round': the blocks that meet side i's forced-step set of X
+  abbrev pub meetsStep : Side → Set → Set
+  meetsStep i X = meets (g .size) block (forced g i X)
 
-module _ (g : Game) (block : ℕ → ℕ) (o : Goal) (A : Set) where
+  -- 01, 'One round': the states of X, which is open, whose block meets the set C
+  abbrev pub openMeeting : Set → Set → Set
+  openMeeting X C s = X s && meets (g .size) block C s
+
+module _ (g : Arena) (block : ℕ → ℕ) (o : Goal) (A : Set) where
   -- 01, 'One round': sure, after as many passes as there are states, when nothing is added and nothing drops out
   unfoldable pub sure : Set
-  sure = passes o (sureStep g block) A (g .size)
+  sure = passes o (insideStep g block one) A (g .size)
 
   -- 01, 'One round': possible
   unfoldable pub possible : Set
-  possible = passes o (possibleStep g block) A (g .size)
+  possible = passes o (meetsStep g block one) A (g .size)
 
   -- 01, 'One round': outside possible is never
   abbrev pub never : Set
@@ -40,8 +44,8 @@ module _ (g : Game) (block : ℕ → ℕ) (o : Goal) (A : Set) where
   undecided s = possible s && not (sure s)
 
   -- 01, 'One round': side 1's forced-step set of sure (reach), or side 2's forced-step set of never (stay)
-  unfoldable pub known : Set
-  known = go o
+  unfoldable pub intoKnown : Set
+  intoKnown = go o
     where
       go : Goal → Set
       go toReach = forced g one sure
@@ -49,17 +53,17 @@ module _ (g : Game) (block : ℕ → ℕ) (o : Goal) (A : Set) where
 
   -- 01, 'One round': a border block is an open block that meets that set
   unfoldable pub border : Set
-  border s = undecided s && meets (g .size) block known s
+  border = openMeeting g block undecided intoKnown
 
   -- 01, 'One round': the lowest-numbered border block
   unfoldable pub borderBlock : ℕ
   borderBlock = least (g .size) (λ b. isBlock block b && border b)
 
 -- 01, 'What is handed back': the pass in which s entered sure, in a reach game; reach's pass 1 is the target
-unfoldable pub enteredSure : Game → (ℕ → ℕ) → Set → ℕ → ℕ
-enteredSure g block A s = suc (least (suc (g .size)) (λ k. passes toReach (sureStep g block) A k s))
+unfoldable pub enteredSure : Arena → (ℕ → ℕ) → Set → ℕ → ℕ
+enteredSure g block A s = suc (least (suc (g .size)) (λ k. passes toReach (insideStep g block one) A k s))
 
 -- 01, 'What is handed back': the pass in which s dropped out of possible, in a stay game; removal pass 1 is what lies
 -- outside the target
-unfoldable pub leftPossible : Game → (ℕ → ℕ) → Set → ℕ → ℕ
-leftPossible g block A s = suc (least (suc (g .size)) (λ k. not (passes toStay (possibleStep g block) A k s)))
+unfoldable pub leftPossible : Arena → (ℕ → ℕ) → Set → ℕ → ℕ
+leftPossible g block A s = suc (least (suc (g .size)) (λ k. not (passes toStay (meetsStep g block one) A k s)))

@@ -1,15 +1,15 @@
--- 01, 'Sheet of cases': what goes in and what comes out, from P1 to P10.
+-- 01, 'Sheet of cases': what goes in and what comes out.
 use Prim.Native.Nat.{ℕ}
 use mathlib.Core.List.{List, [], _∷_}
 use lib.ListN.{take}
+use Rattle.arena.specs.Plan.{noMove}
 use Rattle.game.specs.Rows.{blank}
 use Rattle.game.specs.Game.{stateNo}
 use Rattle.file.specs.Layout.{states}
-use Rattle.solver.specs.Plan.{noMove}
-use Rattle.solver.specs.Solve.{solveVerdict, solveMarks, solveBlocks, solveMoves}
+use Rattle.solver.specs.Solve.{Rows, Outcome, solved}
 use Rattle.solver.specs.declared.Verdict.{Verdict}
 use Rattle.solver.specs.declared.Verdict.the-variants.{Yes, No, Open, Refused}
-use Rattle.cases.specs.Files.{gameM, gameP3, gameP4, gameP5, gameP6, gameP7, gameP8, gameP9, emptyFile, headAlone}
+use Rattle.cases.specs.Files.{gameM, gameP3, gameP4, gameP5, gameP6, gameP7, gameP8, gameP9, emptyFile, headAlone, twoBorders, twoStarts, blockOfThree, mixedBlock, noStart, threeInARow}
 
 -- the bytes of a file, an allowance, and how many places each lent row has
 pub record Case : Type 0 where
@@ -17,27 +17,18 @@ pub record Case : Type 0 where
   pub allowance : ℕ
   pub places : ℕ
 
--- 01, 'What is handed back': the verdict, and the places of the three rows, as many as the head says states
-pub record Outcome : Type 0 where
-  pub verdict : Verdict
-  pub marks : List ℕ
-  pub blocks : List ℕ
-  pub moves : List ℕ
+-- the lent rows before the call: sevens
+unfoldable pub lent : Case → Rows
+lent c = let row : List ℕ = blank (c .places) 7 in record { marks = row; blocks = row; moves = row }
 
--- a lent row before the call: sevens
-unfoldable pub lent : Case → List ℕ
-lent c = blank (c .places) 7
-
--- what the solver's definitions make of a case
+-- what the solver's definitions make of a case, with as many places of each row as the head says states
 unfoldable pub outcome : Case → Outcome
 outcome c =
     let n = states (c .file) in
-    let row = lent c in
+    let out = solved (c .file) (c .allowance) (lent c) in
     record {
-      verdict = solveVerdict (c .file) (c .allowance) row row row;
-      marks = take n (solveMarks (c .file) (c .allowance) row row row);
-      blocks = take n (solveBlocks (c .file) (c .allowance) row row row);
-      moves = take n (solveMoves (c .file) (c .allowance) row row row);
+      answer = out .answer;
+      rows = record { marks = take n (out .rows .marks); blocks = take n (out .rows .blocks); moves = take n (out .rows .moves) };
     }
 
 -- one line of the table
@@ -46,13 +37,13 @@ pub record Line : Type 0 where
   pub wanted : Outcome
 
 abbrev line : List ℕ → ℕ → ℕ → Verdict → List ℕ → List ℕ → List ℕ → Line
-line file allowance places verdict marks blocks moves =
+line file allowance places answer marks blocks moves =
     record {
       given = record { file = file; allowance = allowance; places = places };
-      wanted = record { verdict = verdict; marks = marks; blocks = blocks; moves = moves };
+      wanted = record { answer = answer; rows = record { marks = marks; blocks = blocks; moves = moves } };
     }
 
--- 01, 'Sheet of cases': P1 to P10; the last line is P1 with rows one place too short
+-- 01, 'Sheet of cases': P1 to P10, and P1 with rows one place too short; then a line for each choice
 unfoldable pub lines : List Line
 lines =
     line gameM 511 512 (Yes (stateNo 0) 1) (2 ∷ 2 ∷ 0 ∷ 2 ∷ 0 ∷ []) (0 ∷ 1 ∷ 2 ∷ 3 ∷ 4 ∷ []) (1 ∷ noMove ∷ noMove ∷ noMove ∷ noMove ∷ [])
@@ -67,4 +58,11 @@ lines =
     ∷ line emptyFile 511 512 (Refused 2) [] [] []
     ∷ line headAlone 511 512 (Refused 2) (7 ∷ 7 ∷ 7 ∷ 7 ∷ 7 ∷ []) (7 ∷ 7 ∷ 7 ∷ 7 ∷ 7 ∷ []) (7 ∷ 7 ∷ 7 ∷ 7 ∷ 7 ∷ [])
     ∷ line gameM 511 511 (Refused 1) (7 ∷ 7 ∷ 7 ∷ 7 ∷ 7 ∷ []) (7 ∷ 7 ∷ 7 ∷ 7 ∷ 7 ∷ []) (7 ∷ 7 ∷ 7 ∷ 7 ∷ 7 ∷ [])
+    ∷ line emptyFile 511 511 (Refused 1) [] [] []
+    ∷ line twoBorders 1 512 (Open 1) (1 ∷ 2 ∷ 0 ∷ 1 ∷ 1 ∷ 0 ∷ 2 ∷ []) (0 ∷ 1 ∷ 2 ∷ 3 ∷ 3 ∷ 5 ∷ 6 ∷ []) (blank 7 noMove)
+    ∷ line twoStarts 511 512 (Yes (stateNo 0) 0) (2 ∷ 2 ∷ 2 ∷ 2 ∷ 1 ∷ 1 ∷ 0 ∷ []) (0 ∷ 1 ∷ 2 ∷ 3 ∷ 4 ∷ 4 ∷ 6 ∷ []) (2 ∷ 3 ∷ blank 5 noMove)
+    ∷ line blockOfThree 511 512 (No 1) (0 ∷ 2 ∷ 2 ∷ 0 ∷ 2 ∷ 0 ∷ 0 ∷ []) (0 ∷ 1 ∷ 1 ∷ 3 ∷ 4 ∷ 5 ∷ 6 ∷ []) (noMove ∷ noMove ∷ noMove ∷ 5 ∷ blank 3 noMove)
+    ∷ line mixedBlock 511 512 (Refused 10) (7 ∷ 7 ∷ []) (7 ∷ 7 ∷ []) (7 ∷ 7 ∷ [])
+    ∷ line noStart 511 512 (Refused 8) (7 ∷ 7 ∷ []) (7 ∷ 7 ∷ []) (7 ∷ 7 ∷ [])
+    ∷ line threeInARow 511 512 (Yes (stateNo 0) 0) (2 ∷ 2 ∷ 2 ∷ []) (0 ∷ 1 ∷ 2 ∷ []) (1 ∷ 2 ∷ noMove ∷ [])
     ∷ []

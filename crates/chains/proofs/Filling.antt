@@ -19,7 +19,7 @@ use Rattle.game.specs.Limits.{maxStates}
 use Rattle.game.specs.Rows.{fill, zeros}
 use Rattle.game.proofs.Rows.{fill-store, fill-at, fill-past, fill-length, zeros-length, zeros-at}
 use Rattle.game.proofs.Small.{sweep}
-use Rattle.chains.specs.Lent.{Holds, Keys, manyOf, lastBelow}
+use Rattle.chains.specs.Lent.{Holds, Keys, manyOf, cellAt, lastBelow}
 use Rattle.chains.proofs.Counts.{holds-store, holds-cong, count-cong}
 use Rattle.chains.proofs.Chains.{last-zero, last-here, last-other}
 
@@ -62,7 +62,7 @@ pub change-more : (h : ℕ → ℕ → ℕ) (s : ℕ) {row : List ℕ} (old : Li
 change-more h s {row} old l e v q = fill-store s _ old l row e v (q ∙ ap (h s) not-yet)
   where
     not-yet : getD row s 0 ≡ getD old s 0
-    not-yet = rw e (fill-past s _ old s (le-refl s))
+    not-yet = rw e (fill-past s _ old s 0 (le-refl s))
 
 -- ## Keys
 
@@ -86,10 +86,10 @@ pub ruleset places = (holds-none, holds-done, key-small, key-in, key-fits, key-o
 -- ## Chains
 
 pub link-none : (key : List ℕ) {n : ℕ} {last : List ℕ} → Holds n last (λ _. 0) → Holds n last (lastBelow key 0)
-link-none key h = holds-cong h (λ s _. sym (last-zero key s))
+link-none key h = holds-cong h (λ s _. sym (last-zero (cellAt key) s))
 
 pub link-more : (key : List ℕ) (k : ℕ) {n : ℕ} {last : List ℕ} → Holds n last (lastBelow key k) → getD key k 0 < n → Holds n (set last (getD key k 0) (k + 1)) (lastBelow key (k + 1))
-link-more key k h l = holds-store (getD key k 0) (k + 1) h l (last-here key k (getD key k 0) refl) (λ s _ ne. last-other key k s ne)
+link-more key k h l = holds-store (getD key k 0) (k + 1) h l (last-here (cellAt key) k (getD key k 0) refl) (λ s _ ne. last-other (cellAt key) k s ne)
 
 pub link-before : (key : List ℕ) (k : ℕ) {n : ℕ} {last before : List ℕ} → Holds n last (lastBelow key k) → getD key k 0 < n → Holds k before (λ j. lastBelow key j (getD key j 0)) → k < length before
     → Holds (k + 1) (set before k (getD last (getD key k 0) 0)) (λ j. lastBelow key j (getD key j 0))

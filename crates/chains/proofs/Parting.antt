@@ -13,15 +13,15 @@ use borrow.Author.Tests.{eq-eqb, ne-eqb}
 use Rattle.arena.specs.Sets.{count, bit}
 use Rattle.arena.proofs.Tests.{T-ext, is-true, is-false}
 use Rattle.arena.proofs.Sets.{count-le}
-use Rattle.chains.specs.Lent.{Holds, manyOf, lastBelow, rechained}
+use Rattle.chains.specs.Lent.{Holds, manyOf, cellAt, lastBelow, rechained}
 use Rattle.chains.proofs.Counts.{count-none, holds-store, holds-cong}
 use Rattle.chains.proofs.Chains.{last-zero, last-here, last-other}
 
 -- no place below has the key
 pub last-absent : (key : List ℕ) (c j : ℕ) → ((k : ℕ) → k < j → getD key k 0 ≡ c → ⊥) → lastBelow key j c ≡ 0
-last-absent key c zero none = last-zero key c
+last-absent key c zero none = last-zero (cellAt key) c
 last-absent key c (suc j) none =
-    rw (← add-one) (sym (last-other key j c (λ e. none j (lt-suc-self j) (sym e))) ∙ last-absent key c j (λ k l. none k (omega arith)))
+    rw (← add-one) (sym (last-other (cellAt key) j c (λ e. none j (lt-suc-self j) (sym e))) ∙ last-absent key c j (λ k l. none k (omega arith)))
 
 -- the first j places say so far, of which those of c were linked anew
 pub record Chained (key : List ℕ) (c : ℕ) (before₀ : List ℕ) (n j last size : ℕ) (before : List ℕ) : Type 0 where
@@ -58,7 +58,7 @@ module _ (key : List ℕ) (c : ℕ) (before₀ : List ℕ) where
     pub chain-member : j < n → getD key j 0 ≡ c → {before' : List ℕ} {last' size' : ℕ} → before' ≡ set before j last → last' ≡ j + 1 → size' ≡ size + 1 → Chained key c before₀ n (j + 1) last' size' before'
     unfolding rechained
     chain-member l e {before'} stored at more = rw (stored, at, more) (record {
-      last-is = last-here key j c e;
+      last-is = last-here (cellAt key) j c e;
       size-is = rw (was .size-is, one-more, eq-eqb (getD key j 0) c e) refl;
       before-is = holds-store j last (was .before-is) l (rw (eq-eqb (getD key j 0) c e, is-true (ltb j (j + 1)) (lt→ltb j (j + 1) (omega arith))) (was .last-is))
           (λ k _ ne. rw (others k ne) refl);
@@ -68,7 +68,7 @@ module _ (key : List ℕ) (c : ℕ) (before₀ : List ℕ) where
     pub chain-other : (getD key j 0 ≡ c → ⊥) → {before' : List ℕ} {last' size' : ℕ} → before' ≡ before → last' ≡ last → size' ≡ size → Chained key c before₀ n (j + 1) last' size' before'
     unfolding rechained
     chain-other ne {before'} stored at more = rw (stored, at, more) (record {
-      last-is = was .last-is ∙ last-other key j c (λ z. ne (sym z));
+      last-is = was .last-is ∙ last-other (cellAt key) j c (λ z. ne (sym z));
       size-is = rw (one-more, ne-eqb (getD key j 0) c ne, add-zero) (was .size-is);
       before-is = holds-cong (was .before-is) (λ k _. elim (ℕ-discrete k j) [
         | yes z ↦ rw z (rw (ne-eqb (getD key j 0) c ne) refl)

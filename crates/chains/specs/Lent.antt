@@ -7,7 +7,7 @@ use lib.ListN.{length, getD}
 use lib.Dec.{T, eqb, ltb}
 use Rattle.arena.specs.Sets.{count}
 use Rattle.game.specs.Game.{knownTurn, turnAt, blockAt, fromAt, toAt}
-use Rattle.game.specs.Accepted.{Accepted}
+use Rattle.game.specs.Ranged.{Ranged}
 use Rattle.game.specs.declared.Game.{Game}
 
 -- the first n places of the row hold f's values
@@ -29,10 +29,18 @@ pub record Names (n : ℕ) (block : List ℕ) : Type 0 where
 unfoldable pub manyOf : ℕ → List ℕ → ℕ → ℕ
 manyOf m key c = count m (λ k. eqb (getD key k 0) c)
 
+-- what stands at each place of a row
+abbrev pub cellAt : List ℕ → ℕ → ℕ
+cellAt row k = getD row k 0
+
 -- the last of the first m keys that is c, counted from 1; 0 for none
-unfoldable pub lastBelow : List ℕ → ℕ → ℕ → ℕ
-lastBelow key zero c = 0
-lastBelow key (suc k) c = cond (eqb (getD key k 0) c) (suc k) (lastBelow key k c)
+unfoldable pub lastOf : (ℕ → ℕ) → ℕ → ℕ → ℕ
+lastOf key zero c = 0
+lastOf key (suc k) c = cond (eqb (key k) c) (suc k) (lastOf key k c)
+
+-- the same of a row of keys
+abbrev pub lastBelow : List ℕ → ℕ → ℕ → ℕ
+lastBelow key = lastOf (cellAt key)
 
 -- chains of the places with equal keys: the last place of each key, and the one before each place, counted from 1; 0 for none
 pub record Linked (n m : ℕ) (key last before : List ℕ) : Type 0 where
@@ -54,7 +62,7 @@ needOf g side from s = cond (eqb (turnAt g s) side) 1 (manyOf (g .moves) from s)
 
 -- n states and m moves; the states that moves leave and go to, the moves that each state needs, the blocks
 pub record Lent (g : Game) (side n m : ℕ) (from to need block : List ℕ) : Type 0 where
-  pub accepted : Accepted g
+  pub ranged : Ranged g
   pub known : T (knownTurn side)
   pub states-is : g .states ≡ n
   pub moves-is : g .moves ≡ m

@@ -1,26 +1,26 @@
 -- The game of an accepted file is an accepted game: all that callers may count on, proved once.
 use mathlib.Core.Path.{_≡_, refl, sym, ap, _∙_}
 use mathlib.Core.Bool.{Bool, true, false, _&&_, _||_, true≢false}
-use mathlib.Core.Logic.{_⊎_, inl, inr}
+use mathlib.Core.Logic.{_⊎_, inl, inr, ⊎-elim}
 use mathlib.Core.List.{List}
-use Prim.Native.Nat.{ℕ, zero, suc, _<_}
+use Prim.Native.Nat.{ℕ, suc, _<_}
 use native.Mathlib.Omega.{arith}
 use lib.Dec.{T, eqb, ltb}
 use borrow.Author.Tests.{eq-eqb, eqb-true, ltb-true}
 use Rattle.arena.specs.Sets.{Set}
 use Rattle.arena.proofs.Loops.{some-found, some-one, every-one}
 use Rattle.game.specs.Game.{fromAt, toAt, initials, targets, hasMove}
-use Rattle.game.specs.Accepted.{Accepted, Precise, Ascending}
+use Rattle.game.specs.Accepted.{AcceptedGame, Precise, Ascending}
 use Rattle.file.specs.Layout.{states, moves, block, from, to}
 use Rattle.file.specs.Refusals.{pairBelow, ascends, initial, target, moved, mixed, refusal}
 use Rattle.file.specs.Sound.{Sound}
+use Rattle.file.proofs.Laws.{given-cases}
 use Rattle.file.proofs.Sound.{and-first, and-second, accepted-sound, Whole, accepted-whole}
 use Rattle.file.proofs.Mixed.{uniform}
-use Rattle.decoding.specs.declared.Answer.{Answer}
 use Rattle.decoding.specs.declared.Answer.the-variants.{Accepted as Taken, Refused}
 use Rattle.decoding.specs.declared.Decoded.{Decoded}
-use Rattle.decoding.specs.Decode.{refusalNumber, gameOf, answered, decoded}
-use Rattle.decoding.proofs.Rows.{turn-is, marks-is, block-is, from-is, to-is, initial-is, target-is}
+use Rattle.decoding.specs.Decode.{gameOf, refusedGame, decoded}
+use Rattle.decoding.proofs.GameRows.{turn-is, marks-is, block-is, from-is, to-is, initial-is, target-is}
 
 below-cases : (a b c d : ℕ) → pairBelow a b c d ≡ true → (a < c) ⊎ ((a ≡ c) × (b < d))
 unfolding pairBelow
@@ -57,7 +57,7 @@ module _ (f : List ℕ) (ok : Sound f) (whole : Whole f) where
       let blocks : block f s ≡ block f t = sym (block-is f s ls) ∙ e ∙ block-is f t lt in
       same s ls ∙ uniform f X ok apart s ls ∙ ap X blocks ∙ sym (uniform f X ok apart t lt) ∙ sym (same t lt)
 
-  pub game-accepted : Accepted (gameOf f)
+  pub game-accepted : AcceptedGame (gameOf f)
   unfolding gameOf
   game-accepted =
       record {
@@ -80,47 +80,25 @@ module _ (f : List ℕ) (ok : Sound f) (whole : Whole f) where
       }
 
 -- the game of an accepted file is accepted
-pub accepted-game : (f : List ℕ) → refusal f ≡ 0 → Accepted (gameOf f)
+pub accepted-game : (f : List ℕ) → refusal f ≡ 0 → AcceptedGame (gameOf f)
 accepted-game f e = game-accepted f (accepted-sound f 0 (sym e) refl) (accepted-whole f e)
 
--- demand 1: what a caller of `decode` learns where the answer is no refusal
-pub decoded-accepted : (f : List ℕ) (d : Decoded) → d ≡ decoded f → refusalNumber (d .answer) ≡ 0 → (d .game ≡ gameOf f) × Accepted (d .game)
+-- demand 1: what a caller of `decode` learns of an accepted file
+pub decoded-accepted : (f : List ℕ) (d : Decoded) → d ≡ decoded f → d .answer ≡ Taken → (refusal f ≡ 0) × (d .game ≡ gameOf f) × AcceptedGame (d .game)
 unfolding decoded
-decoded-accepted f d p q = go (refusal f) refl p
-  where
-    go : (r : ℕ) → refusal f ≡ r → d ≡ answered r (gameOf f) → (d .game ≡ gameOf f) × Accepted (d .game)
-    go zero e h = let g : d .game ≡ gameOf f = ap (λ x. x .game) h in (g, rw g (accepted-game f e))
-    go (suc r) e h = let z : refusalNumber (d .answer) ≡ suc r = ap (λ x. refusalNumber (x .answer)) h in absurd (omega arith)
+decoded-accepted f d p q =
+    ⊎-elim
+    (λ (w : (refusal f ≡ 0) × (d ≡ record { answer = Taken; game = gameOf f })).
+    let g : d .game ≡ gameOf f = ap (λ (x : Decoded). x .game) (w .1) in (w .0, g, rw g (accepted-game f (w .0))))
+    (λ (w : (refusal f ≡ 0 → ⊥) × (d ≡ refusedGame (refusal f))). let z : _≡_ {A = ℕ} 0 1 = cc (ap (λ (x : Decoded). x .answer) (w .1)) in absurd (omega arith))
+    (given-cases refusedGame _ (refusal f) d p)
 
--- demand 1: the number answered is the first refusal's, for every byte string
-pub decoded-number : (f : List ℕ) → refusalNumber (decoded f .answer) ≡ refusal f
+-- demand 1: what a caller of `decode` learns of a refused file
+pub decoded-refused : (f : List ℕ) (d : Decoded) (e : ℕ) → d ≡ decoded f → d .answer ≡ Refused e → (e ≡ refusal f) × (e ≡ 0 → ⊥)
 unfolding decoded
-decoded-number f = go (refusal f)
-  where
-    go : (r : ℕ) → refusalNumber (answered r (gameOf f) .answer) ≡ r
-    go zero = refl
-    go (suc r) = refl
-
--- 01, 'What the contracts settle': any two answers that the contract of `decode` permits coincide
-pub decode-determined : (f : List ℕ) (a b : Decoded) → a ≡ decoded f → b ≡ decoded f → a ≡ b
-decode-determined f a b p q = p ∙ sym q
-
--- what a match on the answer learns: the file is accepted, or refused for the number that is given
-pub answer-accepted : (f : List ℕ) (d : Decoded) → d ≡ decoded f → d .answer ≡ Taken → refusal f ≡ 0
-answer-accepted f d p q = sym (decoded-number f) ∙ ap refusalNumber (sym (ap (λ (x : Decoded). x .answer) p) ∙ q)
-
-pub answer-refused : (f : List ℕ) (d : Decoded) (e : ℕ) → d ≡ decoded f → d .answer ≡ Refused e → (e ≡ refusal f) × (e ≡ 0 → ⊥)
-unfolding decoded
-answer-refused f d e p q = go (refusal f) refl
-  where
-    go : (r : ℕ) → refusal f ≡ r → (e ≡ refusal f) × (e ≡ 0 → ⊥)
-    go zero h = absurd (never (d .answer) e (ap (λ (x : Decoded). x .answer) (p ∙ ap (λ (k : ℕ). answered k (gameOf f)) h)) q)
-      where
-        never : (a : Answer) (e : ℕ) → a ≡ Taken → a ≡ Refused e → ⊥
-        never a e x y = let z : _≡_ {A = ℕ} 0 1 = cc in omega arith
-    go (suc r) h =
-        let same : e ≡ suc r = number (d .answer) e r (ap (λ (x : Decoded). x .answer) (p ∙ ap (λ (k : ℕ). answered k (gameOf f)) h)) q in
-        (same ∙ sym h, λ z. omega arith)
-      where
-        number : (a : Answer) (e r : ℕ) → a ≡ Refused (suc r) → a ≡ Refused e → e ≡ suc r
-        number a e r x y = cc
+decoded-refused f d e p q =
+    ⊎-elim
+    (λ (w : (refusal f ≡ 0) × (d ≡ record { answer = Taken; game = gameOf f })). let z : _≡_ {A = ℕ} 0 1 = cc (ap (λ (x : Decoded). x .answer) (w .1)) in absurd (omega arith))
+    (λ (w : (refusal f ≡ 0 → ⊥) × (d ≡ refusedGame (refusal f))).
+    let same : e ≡ refusal f = cc (ap (λ (x : Decoded). x .answer) (w .1)) in (same, λ z. w .0 (sym same ∙ z)))
+    (given-cases refusedGame _ (refusal f) d p)

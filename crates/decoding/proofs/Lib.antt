@@ -1,3 +1,2 @@
-pub mod Answers
-pub mod Rows
+pub mod GameRows
 pub mod Accepted

@@ -1,5 +1,5 @@
 -- What a file decodes to.
-use Prim.Native.Nat.{ℕ, zero, suc}
+use Prim.Native.Nat.{ℕ}
 use mathlib.Core.List.{List}
 use Rattle.game.specs.Limits.{maxStates, maxMoves}
 use Rattle.game.specs.Rows.{fill, blank, zeros}
@@ -7,16 +7,11 @@ use Rattle.game.specs.Game.{stateNo, blockNo, emptyGame}
 use Rattle.game.specs.declared.StateNo.{StateNo}
 use Rattle.game.specs.declared.BlockNo.{BlockNo}
 use Rattle.game.specs.declared.Game.{Game}
+use Rattle.file.specs.Fault.{refusedOr}
 use Rattle.file.specs.Layout.{states, moves, objective, turn, marks, block, from, to}
 use Rattle.file.specs.Refusals.{refusal}
-use Rattle.decoding.specs.declared.Answer.{Answer}
 use Rattle.decoding.specs.declared.Answer.the-variants.{Accepted, Refused}
 use Rattle.decoding.specs.declared.Decoded.{Decoded}
-
--- 01, 'Refusals in their order': the number of each answer; 0 is the accepted file's
-abbrev pub refusalNumber : Answer → ℕ
-refusalNumber Accepted = 0
-refusalNumber (Refused n) = n
 
 -- 01, 'Game file': the rows that the records of f say, one place per state or per move, and 0 after them
 unfoldable pub turnRow : List ℕ → List ℕ
@@ -48,11 +43,10 @@ gameOf f =
       to = toRow f;
     }
 
--- 01, 'Refusals in their order': a refusal returns its number alone; 0 stands for none, and the game is given
-abbrev pub answered : ℕ → Game → Decoded
-answered zero g = record { answer = Accepted; game = g }
-answered (suc e) g = record { answer = Refused (suc e); game = emptyGame }
+-- 01, 'Refusals in their order': a refusal returns its number alone; the game beside it says nothing
+abbrev pub refusedGame : ℕ → Decoded
+refusedGame e = record { answer = Refused e; game = emptyGame }
 
 -- demand 1: what decoding answers to the bytes f
 unfoldable pub decoded : List ℕ → Decoded
-decoded f = answered (refusal f) (gameOf f)
+decoded f = refusedOr refusedGame (refusal f) (record { answer = Accepted; game = gameOf f })

@@ -1,7 +1,7 @@
 // Decoding: from any byte string to an accepted game or a refusal.
 use file::first_refusal;
 use file::move_at;
-use file::word_at;
+use file::number_at;
 use game::BlockNo;
 use game::Game;
 use game::StateNo;
@@ -49,7 +49,7 @@ fn state_rows(file: &[u8], n: usize) -> StateRows
         let at = 10 + 8 * s;
         turn[s] = file[at + 4];
         marks[s] = file[at + 5];
-        let b = BlockNo(word_at(file, at + 6));
+        let b = BlockNo(number_at(file, at + 6));
         block[s] = b;
         s += 1;
     }
@@ -65,9 +65,9 @@ fn move_rows(file: &[u8], n: usize, m: usize) -> MoveRows
     let mut k: usize = 0;
     while k < m {
         let at = move_at(file, n, k);
-        let f = StateNo(word_at(file, at + 4));
+        let f = StateNo(number_at(file, at + 4));
         from[k] = f;
-        let t = StateNo(word_at(file, at + 6));
+        let t = StateNo(number_at(file, at + 6));
         to[k] = t;
         k += 1;
     }
@@ -79,9 +79,9 @@ fn read_game(file: &[u8]) -> Game
     requires { ⌜ Sound (now file) ⌝ }
     ensures { λ r. ⌜ r ≡ gameOf (now (file .entry)) ⌝ }
 {
-    let n = word_at(file, 4) as usize;
-    let m = word_at(file, 6) as usize;
-    let objective = word_at(file, 8);
+    let n = number_at(file, 4) as usize;
+    let m = number_at(file, 6) as usize;
+    let objective = number_at(file, 8);
     let of_states = state_rows(file, n);
     let turn = of_states.turn;
     let marks = of_states.marks;

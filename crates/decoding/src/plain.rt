@@ -1,6 +1,6 @@
 // The records of a sound file, read into rows of plain numbers: the one place where such rows are made.
 use file::move_at;
-use file::word_at;
+use file::number_at;
 ghost use mathlib.Core.Path.{_≡_};
 ghost use Prim.Native.Nat.{_≤_};
 ghost use lib.ListN.{length};
@@ -20,7 +20,7 @@ pub fn plain_states(file: &[u8], n: usize, turn: &mut [u8], marks: &mut [u8], bl
         let at = 10 + 8 * s;
         turn[s] = file[at + 4];
         marks[s] = file[at + 5];
-        block[s] = word_at(file, at + 6);
+        block[s] = number_at(file, at + 6);
         s += 1;
     }
 }
@@ -34,8 +34,8 @@ pub fn plain_moves(file: &[u8], n: usize, m: usize, from: &mut [u16], to: &mut [
     let mut k: usize = 0;
     while k < m {
         let at = move_at(file, n, k);
-        from[k] = word_at(file, at + 4);
-        to[k] = word_at(file, at + 6);
+        from[k] = number_at(file, at + 4);
+        to[k] = number_at(file, at + 6);
         k += 1;
     }
 }

@@ -1,24 +1,26 @@
--- Demand 1, over every byte string, allowance and three rows: the refusals of the solver, and what it leaves in the rows.
+-- Demand 1 holds of every byte string, allowance and lent memory.
 use Prim.Native.Nat.{ℕ, zero, suc, _≤_}
-use mathlib.Core.Path.{_≡_, refl, sym, _∙_}
-use mathlib.Core.Bool.{Bool, true, false, _&&_}
+use mathlib.Core.Path.{_≡_, refl, sym, ap, _∙_, subst}
+use mathlib.Core.Bool.{Bool, true, false}
 use mathlib.Core.List.{List}
 use native.Mathlib.Omega.{arith}
-use lib.ListN.{length, drop}
-use lib.Dec.{leb}
-use Rattle.game.specs.Limits.{maxStates}
-use Rattle.game.specs.Rows.{fill}
-use Rattle.game.proofs.Rows.{fill-drop}
-use Rattle.file.specs.Fault.{unless, when, _then_, lowest}
+use lib.ListN.{length}
+use lib.Dec.{lit≤}
+use Rattle.file.specs.Fault.{unless, _then_, lowest, refusedOr, keptOr}
 use Rattle.file.specs.Layout.{states, moves}
 use Rattle.file.specs.Refusals.{frame, headFields, headFault, stateFields, stateFault, moveFields, moveFault, blockFault, wholeFault, refusal}
-use Rattle.decoding.specs.Decode.{gameOf}
+use Rattle.decoding.specs.Decode.{gameOf, refusedGame, decoded}
+use Rattle.decoding.specs.declared.Answer.{Answer}
+use Rattle.decoding.specs.declared.Answer.the-variants as decode
+use Rattle.exchange.specs.Exchange.{exchangedFile, exchangeFault, writtenOver, exchanged}
+use Rattle.exchange.specs.declared.Exchanged.{Exchanged}
+use Rattle.exchange.specs.declared.Exchanged.the-variants as exchange
 use Rattle.runs.specs.Run.{Word, YES, NO, OPEN, word}
-use Rattle.solver.specs.Solve.{solveFault, said, verdictIf, rowIf, runOf, solveVerdict, solveMarks, solveBlocks, solveMoves, refusalNumber}
+use Rattle.solver.specs.Solve.{decisionOf, said, runOf, verdictOf, Rows, shortRow, solveFault, Outcome, solved}
 use Rattle.solver.specs.declared.Verdict.{Verdict}
 use Rattle.solver.specs.declared.Verdict.the-variants.{Refused}
-use Rattle.runs.proofs.Runs.{run-states}
-use Rattle.solver.proofs.Answers.{refused}
+use Rattle.solver.proofs.HandingBack.{solved-is}
+use Rattle.demands.specs.Demand1.{GivenExactly, Demand1, Demand1OfDecoding, Demand1OfExchange}
 
 -- ## 'one of the refusals 1 to 11'
 
@@ -33,89 +35,81 @@ unfolding unless
 unless-most true v h = omega arith
 unless-most false v h = h
 
-when-most : (t : Bool) (v : ℕ) → v ≤ 11 → when t v ≤ 11
-unfolding when
-when-most true v h = h
-when-most false v h = omega arith
-
 lowest-most : (n : ℕ) (fault : ℕ → ℕ) → ((k : ℕ) → fault k ≤ 11) → lowest n fault ≤ 11
 unfolding lowest
 lowest-most zero fault h = omega arith
 lowest-most (suc n) fault h = then-most (lowest n fault) (fault n) (lowest-most n fault h) (h n)
 
-frame-most : (f : List ℕ) (at len kind : ℕ) → frame f at len kind ≤ 11
-unfolding frame
-frame-most f at len kind =
-    then-most _ _ (unless-most _ 2 (omega arith)) (then-most _ _ (unless-most _ 3 (omega arith))
-    (then-most _ _ (unless-most _ 3 (omega arith)) (unless-most _ 2 (omega arith))))
-
-state-most : (f : List ℕ) (s : ℕ) → stateFault f s ≤ 11
-unfolding stateFault stateFields
-state-most f s =
-    then-most _ _ (frame-most f _ 6 2) (then-most _ _ (unless-most _ 5 (omega arith)) (then-most _ _ (unless-most _ 5 (omega arith))
-    (then-most _ _ (unless-most _ 5 (omega arith)) (unless-most _ 5 (omega arith)))))
-
-move-most : (f : List ℕ) (k : ℕ) → moveFault f k ≤ 11
-unfolding moveFault moveFields
-move-most f k =
-    then-most _ _ (frame-most f _ 6 3) (then-most _ _ (unless-most _ 6 (omega arith)) (then-most _ _ (unless-most _ 6 (omega arith)) (unless-most _ 6 (omega arith))))
-
-whole-most : (f : List ℕ) → wholeFault f ≤ 11
-unfolding wholeFault blockFault
-whole-most f =
-    then-most _ _ (when-most _ 7 (omega arith)) (then-most _ _ (unless-most _ 8 (omega arith)) (then-most _ _ (unless-most _ 9 (omega arith))
-    (then-most _ _ (when-most _ 10 (omega arith)) (when-most _ 11 (omega arith)))))
+ruleset mosts = (then-most, unless-most, lowest-most, lit≤, tt)
 
 -- a file's refusal is one of those of the table
 pub refusal-most : (f : List ℕ) → refusal f ≤ 11
-unfolding refusal headFault headFields
-refusal-most f =
-    then-most _ _ (then-most _ _ (frame-most f 0 8 1) (then-most _ _ (unless-most _ 4 (omega arith)) (then-most _ _ (unless-most _ 4 (omega arith)) (unless-most _ 4 (omega arith)))))
-    (then-most _ _ (lowest-most (states f) (stateFault f) (state-most f))
-    (then-most _ _ (lowest-most (moves f) (moveFault f) (move-most f)) (whole-most f)))
+unfolding refusal headFault headFields stateFault stateFields moveFault moveFields wholeFault blockFault frame
+refusal-most f = search mosts depth 12
 
-module _ (f : List ℕ) (a : ℕ) (marks blocks moves : List ℕ) where
-  -- 'A bad game or a short row gets one of the refusals 1 to 11, given exactly when its condition is the first met': the
-  -- number of the answer is that of the first condition met, and 0 where none is
-  pub exactly-when : refusalNumber (solveVerdict f a marks blocks moves) ≡ solveFault f marks blocks moves
-  unfolding solveVerdict
-  exactly-when = go (solveFault f marks blocks moves)
-    where
-      worded : (w : Word) → refusalNumber (said w (runOf f a .last) (runOf f a .splits)) ≡ 0
-      worded YES = refl
-      worded NO = refl
-      worded OPEN = refl
+-- ## 'given exactly when its condition is the first met'
 
-      go : (e : ℕ) → refusalNumber (verdictIf e (said (word (runOf f a .last)) (runOf f a .last) (runOf f a .splits))) ≡ e
-      go zero = worded (word (runOf f a .last))
-      go (suc e) = refl
+given-exactly : {A : Type 0} (refused : ℕ → A) (v : A) → ((i j : ℕ) → refused i ≡ refused j → i ≡ j) → ((e : ℕ) → v ≡ refused e → ⊥)
+    → (first : ℕ) → first ≤ 11 → GivenExactly refused first (refusedOr refused first v)
+given-exactly refused v same never zero low =
+    record { one-to-eleven = low; exactly-when = λ e. ((λ h. absurd (never e h)), λ h. absurd (omega (arith, h .0, h .1))) }
+given-exactly refused v same never (suc n) low =
+    record { one-to-eleven = low; exactly-when = λ e. ((λ h. (same (suc n) e h, omega (arith, same (suc n) e h))), λ h. ap refused (h .0)) }
 
-  pub one-to-eleven : solveFault f marks blocks moves ≤ 11
-  unfolding solveFault
-  one-to-eleven = then-most _ _ (unless-most (leb maxStates (length marks) && leb maxStates (length blocks) && leb maxStates (length moves)) 1 (omega arith)) (refusal-most f)
+-- ## Solving
 
-  -- 'and all lent rows stay untouched'
-  pub untouched : (e : ℕ) → solveFault f marks blocks moves ≡ suc e
-      → (solveVerdict f a marks blocks moves ≡ Refused (suc e))
-      × (solveMarks f a marks blocks moves ≡ marks) × (solveBlocks f a marks blocks moves ≡ blocks) × (solveMoves f a marks blocks moves ≡ moves)
-  untouched e p =
-      let all = refused f marks blocks moves a (suc e) (sym p) (λ z. omega arith) in
-      (sym (all .0), sym (all .1 .0), sym (all .1 .1 .0), sym (all .1 .1 .1))
+-- a verdict is no refusal
+verdict-given : (w : Word) (f : List ℕ) (a e : ℕ) → said (decisionOf w (runOf f a .last)) (runOf f a .splits) ≡ Refused e → ⊥
+verdict-given YES f a e q = let z : _≡_ {A = ℕ} 0 1 = cc in omega arith
+verdict-given NO f a e q = let z : _≡_ {A = ℕ} 0 1 = cc in omega arith
+verdict-given OPEN f a e q = let z : _≡_ {A = ℕ} 0 1 = cc in omega arith
 
-  -- 01, 'What is handed back': the first places, one per state, are written; the rest keep their content
-  kept-after : (e : ℕ) (row : List ℕ) (value : ℕ → ℕ) → drop (gameOf f .states) (rowIf e (fill (runOf f a .last .states) value row) row) ≡ drop (gameOf f .states) row
-  kept-after zero row value = rw (run-states a (gameOf f)) (fill-drop (gameOf f .states) value row)
-  kept-after (suc e) row value = refl
+module _ (f : List ℕ) (a : ℕ) (lent : Rows) where
+  -- whatever the first fault is, the outcome is as demanded
+  outcome-of : (first : ℕ) → first ≤ 11 → (done : Outcome) → ((e : ℕ) → done .answer ≡ Refused e → ⊥)
+      → let out = refusedOr (λ e. record { answer = Refused e; rows = lent }) first done in
+      GivenExactly Refused first (out .answer) × ((e : ℕ) → out .answer ≡ Refused e → out .rows ≡ lent)
+  outcome-of zero low done never = (given-exactly Refused (done .answer) (λ i j q. cc) never zero low, λ e q. absurd (never e q))
+  outcome-of (suc n) low done never = (given-exactly Refused (done .answer) (λ i j q. cc) never (suc n) low, λ e q. refl)
 
-  pub rest-kept : (drop (gameOf f .states) (solveMarks f a marks blocks moves) ≡ drop (gameOf f .states) marks)
-      × (drop (gameOf f .states) (solveBlocks f a marks blocks moves) ≡ drop (gameOf f .states) blocks)
-      × (drop (gameOf f .states) (solveMoves f a marks blocks moves) ≡ drop (gameOf f .states) moves)
-  unfolding solveMarks solveBlocks solveMoves
-  rest-kept = (kept-after (solveFault f marks blocks moves) marks _, kept-after (solveFault f marks blocks moves) blocks _, kept-after (solveFault f marks blocks moves) moves _)
+  fault-most : solveFault f lent ≤ 11
+  unfolding solveFault shortRow
+  fault-most = then-most _ _ (unless-most _ 1 (omega arith)) (refusal-most f)
 
-  -- 01, 'What the contracts settle': any two outcomes that the contract of `solve` permits coincide
-  pub solve-determined : (v w : Verdict) (m m' b b' p p' : List ℕ)
-      → (v ≡ solveVerdict f a marks blocks moves) × (m ≡ solveMarks f a marks blocks moves) × (b ≡ solveBlocks f a marks blocks moves) × (p ≡ solveMoves f a marks blocks moves)
-      → (w ≡ solveVerdict f a marks blocks moves) × (m' ≡ solveMarks f a marks blocks moves) × (b' ≡ solveBlocks f a marks blocks moves) × (p' ≡ solveMoves f a marks blocks moves)
-      → (v ≡ w) × (m ≡ m') × (b ≡ b') × (p ≡ p')
-  solve-determined v w m m' b b' p p' x y = (x .0 ∙ sym (y .0), x .1 ∙ sym (y .1), x .2 ∙ sym (y .2), x .3 ∙ sym (y .3))
+  pub demand1 : Demand1 f a lent (solved f a lent)
+  demand1 =
+      let h = outcome-of (solveFault f lent) fault-most _ (verdict-given (word (runOf f a .last)) f a) in
+      record {
+        takes-all = refl;
+        refusals = rw (solved-is f a lent) (h .0);
+        untouched = rw (solved-is f a lent) (h .1);
+      }
+
+-- ## Decoding, and the exchange
+
+pub demand1-of-decoding : (f : List ℕ) → Demand1OfDecoding f (decoded f)
+unfolding decoded
+demand1-of-decoding f = record { takes-all = refl; refusals = go (refusal f) (refusal-most f) }
+  where
+    go : (first : ℕ) → first ≤ 11 → GivenExactly decode.Refused first (refusedOr refusedGame first (record { answer = decode.Accepted; game = gameOf f }) .answer)
+    go zero low = given-exactly decode.Refused decode.Accepted (λ i j q. cc) (λ e q. let z : _≡_ {A = ℕ} 0 1 = cc in omega arith) zero low
+    go (suc n) low = given-exactly decode.Refused decode.Accepted (λ i j q. cc) (λ e q. let z : _≡_ {A = ℕ} 0 1 = cc in omega arith) (suc n) low
+
+pub demand1-of-exchange : (f out : List ℕ) → Demand1OfExchange f out (exchanged f out)
+unfolding exchanged exchangeFault
+demand1-of-exchange f out = record {
+  takes-all = refl;
+  refusals = given-exactly exchange.Refused (exchange.Written (length (exchangedFile f))) (λ i j q. cc) never (exchangeFault f (length out)) fault-most;
+  untouched = go (exchangeFault f (length out));
+}
+  where
+    never : (e : ℕ) → exchange.Written (length (exchangedFile f)) ≡ exchange.Refused e → ⊥
+    never e q = let z : _≡_ {A = ℕ} 0 1 = cc in omega arith
+
+    fault-most : exchangeFault f (length out) ≤ 11
+    fault-most = then-most _ _ (refusal-most f) (unless-most _ 1 (omega arith))
+
+    go : (first e : ℕ) → refusedOr exchange.Refused first (exchange.Written (length (exchangedFile f))) ≡ exchange.Refused e
+        → keptOr out first (writtenOver (exchangedFile f) out) ≡ out
+    go zero e q = absurd (never e q)
+    go (suc n) e q = refl

@@ -1,29 +1,35 @@
 -- The exchanged game beside the game, in one round: sets, split, marks and plan.
-use Prim.Native.Nat.{ℕ, _<_}
-use mathlib.Core.Path.{_≡_, refl, ap, ap₂, _∙_}
+use Prim.Native.Nat.{ℕ, suc, _<_}
+use mathlib.Core.Path.{_≡_, refl, sym, ap, ap₂, _∙_}
 use mathlib.Core.Bool.{Bool, true, false, not, _&&_, cond, Bool·beq}
 use lib.Dec.{T, eqb, ltb}
 use Rattle.arena.specs.Sets.{Set, compl}
-use Rattle.arena.specs.Game.{Side, one, two, other}
+use Rattle.arena.specs.Arena.{Side, one, two, other, same}
 use Rattle.arena.specs.Win.{Goal, toReach, toStay, swapGoal}
+use Rattle.arena.specs.Passes.{rank}
+use Rattle.arena.specs.Plan.{noMove}
 use Rattle.arena.proofs.Tests.{not-not}
 use Rattle.arena.proofs.Loops.{some-cong}
-use Rattle.game.specs.Game.{blockNo, marked, turnAt, marksAt, blockAt, initials, targets, hasMove}
-use Rattle.game.specs.Arena.{sideOf, goalOf, arenaOf}
-use Rattle.game.specs.Accepted.{Accepted}
+use Rattle.arena.proofs.Least.{least-cong}
+use Rattle.game.specs.Game.{blockNo, turnAt, blockAt, targets, hasMove, reblocked}
+use Rattle.game.specs.Published.{sideOf, goalOf, arenaOf}
+use Rattle.game.specs.Accepted.{AcceptedGame}
 use Rattle.game.specs.declared.Game.{Game}
-use Rattle.game.proofs.Rows.{fill-cong, fill-at}
-use Rattle.exchange.specs.Exchange.{otherTurn, otherObjective, otherMarks, exchangedGame}
-use Rattle.exchange.proofs.Fields.{marks-initial, marks-target}
+use Rattle.game.proofs.Rows.{fill-cong}
+use Rattle.exchange.specs.Exchange.{otherTurn, otherObjective, exchangedGame}
+use Rattle.exchange.proofs.Games.{turn-changed, exchanged-targets}
 use Rattle.blocks.specs.Blocks.{split}
-use Rattle.blocks.specs.Round.{sure, possible, known, borderBlock}
+use Rattle.blocks.specs.Round.{sure, possible, intoKnown, borderBlock, insideStep}
+use Rattle.blocks.specs.Hunt.{hunter}
 use Rattle.blocks.proofs.Sound.{sure-possible}
-use Rattle.runs.specs.Run.{borderOf, sureStates, possibleStates, knownStates, Word, YES, NO, OPEN, splitGame}
-use Rattle.solver.specs.Plan.{mark, noMove, successors, advice, earlierSure, earlierNever, rule, planned}
+use Rattle.runs.specs.Run.{Choice, lowestFirst, sureStates, possibleStates, intoKnownStates, Word, YES, NO, OPEN, splitGame}
+use Rattle.solver.specs.Rules.{mark, successors, advice, rule, planned}
+use Rattle.solver.specs.Work.{chaseRule, fleeRule, winnerRule}
+use Rattle.solver.proofs.Rules.{winner-rule}
 use Rattle.demands.specs.Trades.{tradeWord, tradeMark}
-use Rattle.runs.proofs.Runs.{reblocked}
-use Rattle.demands.proofs.Traded.{Agree, least-cong, mine-traded}
-use Rattle.demands.proofs.TradedRound.{sure-traded, possible-traded, known-traded, border-block-traded, entered-traded, left-traded}
+use Rattle.demands.proofs.Following.{onTheWay, safe}
+use Rattle.demands.proofs.Traded.{Agree, mine-traded, lower-traded, upper-traded, rank-traded}
+use Rattle.demands.proofs.TradedRound.{sure-traded, possible-traded, known-traded, border-block-traded}
 
 -- ## The rows
 
@@ -50,28 +56,18 @@ module _ (g : Game) where
 
   -- whose turn each state is, is flipped
   pub turns-flipped : (s : ℕ) → s < g .states → turnsOf s ≡ other (sideOf (turnAt g s))
-  unfolding exchangedGame
-  turns-flipped s l = ap sideOf (fill-at (g .states) (λ s. otherTurn (turnAt g s)) (g .turn) s l) ∙ other-side (turnAt g s)
-
-  -- a state's marks are changed
-  marks-changed : (s : ℕ) → s < g .states → marksAt (exchangedGame g) s ≡ otherMarks (marksAt g s)
-  unfolding exchangedGame
-  marks-changed s l = fill-at (g .states) (λ s. otherMarks (marksAt g s)) (g .marks) s l
+  turns-flipped s l = ap sideOf (turn-changed g s l) ∙ other-side (turnAt g s)
 
   -- the goal is the opposite one
   pub goal-opposite : goalOf (exchangedGame g .objective) ≡ swapGoal (goalOf (g .objective))
   unfolding exchangedGame
   goal-opposite = other-goal (g .objective)
 
-module _ (g : Game) (ok : Accepted g) where
-  -- the target is the other states
-  pub targets-opposite : Agree (g .states) (targets (exchangedGame g)) (compl (targets g))
-  targets-opposite s l = ap (marked 2) (marks-changed g s l) ∙ marks-target (marksAt g s) (ok .marks-high s l)
+-- the states that entered in an earlier pass, counted from 1
+abbrev chase : Game → Side → Set → ℕ → Set
+chase g i P s t = ltb (suc (rank (g .states) (insideStep (arenaOf g) (blockAt g) i) P t)) (suc (rank (g .states) (insideStep (arenaOf g) (blockAt g) i) P s))
 
-  -- the starts are the starts
-  pub initials-same : Agree (g .states) (initials (exchangedGame g)) (initials g)
-  initials-same s l = ap (marked 1) (marks-changed g s l) ∙ marks-initial (marksAt g s) (ok .marks-high s l)
-
+module _ (g : Game) (ok : AcceptedGame g) where
   -- ## One round
 
   -- sure is what was never
@@ -79,28 +75,28 @@ module _ (g : Game) (ok : Accepted g) where
   unfolding arenaOf hasMove exchangedGame
   sure-exchanged s l =
       ap (λ (o : Goal). sure (arenaOf (exchangedGame g)) (blockAt g) o (targets (exchangedGame g)) s) (goal-opposite g)
-      ∙ sure-traded (arenaOf g) (turnsOf g) (turns-flipped g) (blockAt g) (targets g) (targets (exchangedGame g)) targets-opposite (goalOf (g .objective)) s l
+      ∙ sure-traded (arenaOf g) (turnsOf g) (turns-flipped g) (blockAt g) (targets g) (targets (exchangedGame g)) (exchanged-targets g ok) (goalOf (g .objective)) s l
 
   -- never is what was sure
   pub possible-exchanged : Agree (g .states) (possibleStates (exchangedGame g)) (compl (sureStates g))
   unfolding arenaOf hasMove exchangedGame
   possible-exchanged s l =
       ap (λ (o : Goal). possible (arenaOf (exchangedGame g)) (blockAt g) o (targets (exchangedGame g)) s) (goal-opposite g)
-      ∙ possible-traded (arenaOf g) (turnsOf g) (turns-flipped g) (blockAt g) (targets g) (targets (exchangedGame g)) targets-opposite (goalOf (g .objective)) s l
+      ∙ possible-traded (arenaOf g) (turnsOf g) (turns-flipped g) (blockAt g) (targets g) (targets (exchangedGame g)) (exchanged-targets g ok) (goalOf (g .objective)) s l
 
   -- the set by which the border block is split is the same
-  pub known-exchanged : Agree (g .states) (knownStates (exchangedGame g)) (knownStates g)
+  pub known-exchanged : Agree (g .states) (intoKnownStates (exchangedGame g)) (intoKnownStates g)
   unfolding arenaOf hasMove exchangedGame
   known-exchanged s l =
-      ap (λ (o : Goal). known (arenaOf (exchangedGame g)) (blockAt g) o (targets (exchangedGame g)) s) (goal-opposite g)
-      ∙ known-traded (arenaOf g) (turnsOf g) (turns-flipped g) (blockAt g) (targets g) (targets (exchangedGame g)) targets-opposite (goalOf (g .objective)) s l
+      ap (λ (o : Goal). intoKnown (arenaOf (exchangedGame g)) (blockAt g) o (targets (exchangedGame g)) s) (goal-opposite g)
+      ∙ known-traded (arenaOf g) (turnsOf g) (turns-flipped g) (blockAt g) (targets g) (targets (exchangedGame g)) (exchanged-targets g ok) (goalOf (g .objective)) s l
 
   -- the border block is the same
-  pub border-exchanged : borderOf (exchangedGame g) ≡ borderOf g
+  pub border-exchanged : lowestFirst (exchangedGame g) ≡ lowestFirst g
   unfolding arenaOf hasMove exchangedGame
   border-exchanged =
       ap (λ (o : Goal). borderBlock (arenaOf (exchangedGame g)) (blockAt g) o (targets (exchangedGame g))) (goal-opposite g)
-      ∙ border-block-traded (arenaOf g) (turnsOf g) (turns-flipped g) (blockAt g) (targets g) (targets (exchangedGame g)) targets-opposite (goalOf (g .objective))
+      ∙ border-block-traded (arenaOf g) (turnsOf g) (turns-flipped g) (blockAt g) (targets g) (targets (exchangedGame g)) (exchanged-targets g ok) (goalOf (g .objective))
 
   -- ## The split
 
@@ -112,12 +108,12 @@ module _ (g : Game) (ok : Accepted g) where
       rw e (ap (λ r. cond (eqb (blockAt g s) b') r (blockAt g s))
       (least-cong (g .states) _ _ (λ t k. ap₂ (λ x y. eqb (blockAt g t) b' && Bool·beq x y) (h t k) (h s l))))
 
-  -- the exchanged game is split as the game is
-  pub split-exchanged : splitGame (exchangedGame g) ≡ exchangedGame (splitGame g)
+  -- the exchanged game is split as the game is, by a choice that does not look at the sides
+  pub split-exchanged : (choose : Choice) → choose (exchangedGame g) ≡ choose g → splitGame choose (exchangedGame g) ≡ exchangedGame (splitGame choose g)
   unfolding splitGame exchangedGame
-  split-exchanged =
+  split-exchanged choose same =
       ap (reblocked (exchangedGame g)) (fill-cong (g .states) _ _ (g .block) (λ s l.
-      ap blockNo (split-cong (borderOf (exchangedGame g)) (borderOf g) (knownStates (exchangedGame g)) (knownStates g) border-exchanged known-exchanged s l)))
+      ap blockNo (split-cong (choose (exchangedGame g)) (choose g) (intoKnownStates (exchangedGame g)) (intoKnownStates g) same known-exchanged s l)))
 
   -- ## The marks
 
@@ -146,41 +142,53 @@ module _ (g : Game) (ok : Accepted g) where
       (ap₂ _&&_ (ap₂ _&&_ (mine-traded (arenaOf g) (turnsOf g) (turns-flipped g) i s l) e) (some-cong (g .states) _ _ agree))
       (least-cong (g .states) _ _ agree)
 
-  -- what entered earlier is what had dropped out earlier
-  entered-exchanged : (s : ℕ) → s < g .states → Agree (g .states) (earlierSure (exchangedGame g) s) (earlierNever g s)
+  -- of two sets of prey that agree: advice to the side that hunts, and to the one that is hunted
+  chase-traded : (i : Side) (P P' : Set) → Agree (g .states) P' P → (s : ℕ) → s < g .states
+      → advice (exchangedGame g) (other i) (onTheWay (arenaOf (exchangedGame g)) (blockAt g) (other i) P') (chase (exchangedGame g) (other i) P' s) s
+      ≡ advice g i (onTheWay (arenaOf g) (blockAt g) i P) (chase g i P s) s
   unfolding arenaOf hasMove exchangedGame
-  entered-exchanged s l t k =
-      let same = entered-traded (arenaOf g) (turnsOf g) (turns-flipped g) (blockAt g) (targets g) (targets (exchangedGame g)) targets-opposite in
-      ap₂ ltb (same t k) (same s l)
+  chase-traded i P P' same s l =
+      let ranks = rank-traded (arenaOf g) (turnsOf g) (turns-flipped g) i P' P same (blockAt g) in
+      advice-exchanged i _ _ _ _ s l
+      (ap₂ (λ x y. x && not y) (lower-traded (arenaOf g) (turnsOf g) (turns-flipped g) i P' P same (blockAt g) s l) (same s l))
+      (λ t k. ap₂ (λ x y. ltb (suc x) (suc y)) (ranks t k) (ranks s l))
 
-  -- what dropped out earlier is what had entered earlier
-  left-exchanged : (s : ℕ) → s < g .states → Agree (g .states) (earlierNever (exchangedGame g) s) (earlierSure g s)
+  flee-traded : (i : Side) (P P' : Set) → Agree (g .states) P' P → (s : ℕ) → s < g .states
+      → advice (exchangedGame g) (other (other i)) (safe (arenaOf (exchangedGame g)) (blockAt g) (other i) P') (safe (arenaOf (exchangedGame g)) (blockAt g) (other i) P') s
+      ≡ advice g (other i) (safe (arenaOf g) (blockAt g) i P) (safe (arenaOf g) (blockAt g) i P) s
   unfolding arenaOf hasMove exchangedGame
-  left-exchanged s l t k =
-      let same = left-traded (arenaOf g) (turnsOf g) (turns-flipped g) (blockAt g) (targets g) (targets (exchangedGame g)) targets-opposite in
-      ap₂ ltb (same t k) (same s l)
-
-  -- outside possible is what was sure
-  never-was-sure : Agree (g .states) (compl (possibleStates (exchangedGame g))) (sureStates g)
-  never-was-sure s l = ap not (possible-exchanged s l) ∙ not-not (sureStates g s)
+  flee-traded i P P' same s l =
+      let outside : Agree (g .states) (safe (arenaOf (exchangedGame g)) (blockAt g) (other i) P') (safe (arenaOf g) (blockAt g) i P) =
+      λ t k. ap not (upper-traded (arenaOf g) (turnsOf g) (turns-flipped g) i P' P same (blockAt g) t k) in
+      advice-exchanged (other i) _ _ _ _ s l (outside s l) outside
 
   -- outside the target is what was in it
   other-target : Agree (g .states) (compl (targets (exchangedGame g))) (targets g)
-  other-target s l = ap not (targets-opposite s l) ∙ not-not (targets g s)
+  other-target s l = ap not (exchanged-targets g ok s l) ∙ not-not (targets g s)
 
-module _ (g : Game) (ok : Accepted g) where
-  -- each rule gives the traded word's winner in the exchanged game the same move
-  rule-exchanged : (w : Word) (o : Goal) (s : ℕ) → s < g .states → rule (tradeWord w) (swapGoal o) (exchangedGame g) s ≡ rule w o g s
-  unfolding rule
-  rule-exchanged YES toReach s l =
-      advice-exchanged g ok one _ _ _ _ s l (ap₂ _&&_ (never-was-sure g ok s l) (targets-opposite g ok s l)) (left-exchanged g ok s l)
-  rule-exchanged YES toStay s l = advice-exchanged g ok one _ _ _ _ s l (never-was-sure g ok s l) (never-was-sure g ok)
-  rule-exchanged NO toReach s l = advice-exchanged g ok two _ _ _ _ s l (sure-exchanged g ok s l) (sure-exchanged g ok)
-  rule-exchanged NO toStay s l =
-      advice-exchanged g ok two _ _ _ _ s l (ap₂ _&&_ (sure-exchanged g ok s l) (other-target g ok s l)) (entered-exchanged g ok s l)
-  rule-exchanged OPEN o s l = refl
+  -- each rule gives the opponent in the exchanged game the same move
+  rule-traded : (i : Side) (s : ℕ) → s < g .states → winnerRule (exchangedGame g) (other i) s ≡ winnerRule g i s
+  unfolding chaseRule fleeRule arenaOf exchangedGame
+  rule-traded i s l = rw (goal-opposite g) (go i (goalOf (g .objective)))
+    where
+      chases : (o : Goal) → chaseRule (exchangedGame g) (swapGoal o) s ≡ chaseRule g o s
+      chases toReach = chase-traded one (targets g) _ other-target s l
+      chases toStay = chase-traded two (compl (targets g)) _ (exchanged-targets g ok) s l
+
+      flees : (o : Goal) → fleeRule (exchangedGame g) (swapGoal o) s ≡ fleeRule g o s
+      flees toReach = flee-traded one (targets g) _ other-target s l
+      flees toStay = flee-traded two (compl (targets g)) _ (exchanged-targets g ok) s l
+
+      go : (i : Side) (o : Goal) → cond (same (other i) (hunter (swapGoal o))) (chaseRule (exchangedGame g) (swapGoal o) s) (fleeRule (exchangedGame g) (swapGoal o) s)
+          ≡ cond (same i (hunter o)) (chaseRule g o s) (fleeRule g o s)
+      go one toReach = chases toReach
+      go one toStay = flees toStay
+      go two toReach = flees toReach
+      go two toStay = chases toStay
 
   -- the plan shown is the same
   pub plan-exchanged : (w : Word) (s : ℕ) → s < g .states → planned (tradeWord w) (exchangedGame g) s ≡ planned w g s
-  plan-exchanged w s l =
-      ap (λ (o : Goal). rule (tradeWord w) o (exchangedGame g) s) (goal-opposite g) ∙ rule-exchanged w (goalOf (g .objective)) s l
+  unfolding rule
+  plan-exchanged YES s l = sym (winner-rule (exchangedGame g) two s) ∙ rule-traded one s l ∙ winner-rule g one s
+  plan-exchanged NO s l = sym (winner-rule (exchangedGame g) one s) ∙ rule-traded two s l ∙ winner-rule g two s
+  plan-exchanged OPEN s l = refl

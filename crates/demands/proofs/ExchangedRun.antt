@@ -5,34 +5,35 @@ use mathlib.Core.Bool.{Bool, true, false, not, _&&_, cond}
 use mathlib.Core.Logic.{_↔_}
 use lib.Dec.{T, T-not, not-T}
 use Rattle.arena.specs.Sets.{Set, some}
-use Rattle.arena.specs.Game.{one}
+use Rattle.arena.specs.Arena.{one}
 use Rattle.arena.specs.Win.{Goal}
 use Rattle.arena.proofs.Tests.{T-ext}
 use Rattle.arena.proofs.Sets.{meets-in, meets-out}
 use Rattle.arena.proofs.Win.{region, winning-region}
 use Rattle.game.specs.Game.{blockAt, initials, targets, hasMove}
-use Rattle.game.specs.Arena.{goalOf, arenaOf}
-use Rattle.game.specs.Accepted.{Accepted}
+use Rattle.game.specs.Published.{goalOf, arenaOf}
+use Rattle.game.specs.Accepted.{AcceptedGame}
 use Rattle.game.specs.declared.Game.{Game}
 use Rattle.exchange.specs.Exchange.{exchangedGame}
+use Rattle.exchange.proofs.Games.{exchanged-initials, exchanged-targets}
 use Rattle.blocks.proofs.Sound.{sure-possible}
-use Rattle.runs.specs.Run.{round, sureStates, possibleStates, Word, YES, NO, OPEN, word, splitGame, Run, oneMore, ended, ifOpen, run}
-use Rattle.demands.specs.Aims.{Wins}
+use Rattle.runs.specs.Run.{Choice, round, sureStates, possibleStates, Word, YES, NO, OPEN, word, splitGame, Run, oneMore, ended, ifOpen, run}
+use Rattle.demands.specs.Winners.{Wins}
 use Rattle.demands.specs.Trades.{SingleStart, tradeWord, tradeRun}
 use Rattle.runs.proofs.Rounds.{accepted-live, split-accepted}
 use Rattle.demands.proofs.Traded.{region-traded}
-use Rattle.demands.proofs.Exchanged.{turnsOf, turns-flipped, goal-opposite, targets-opposite, initials-same, sure-exchanged, possible-exchanged, split-exchanged}
+use Rattle.demands.proofs.Exchanged.{turnsOf, turns-flipped, goal-opposite, sure-exchanged, possible-exchanged, split-exchanged}
 
 -- ## Who wins
 
-module _ (g : Game) (ok : Accepted g) (s : ℕ) (l : s < g .states) where
+module _ (g : Game) (ok : AcceptedGame g) (s : ℕ) (l : s < g .states) where
   -- the exchanged game's region is what lies outside the game's
   region-exchanged : region (arenaOf (exchangedGame g)) one (goalOf (exchangedGame g .objective)) (targets (exchangedGame g)) s
       ≡ not (region (arenaOf g) one (goalOf (g .objective)) (targets g) s)
   unfolding arenaOf hasMove exchangedGame
   region-exchanged =
       ap (λ (o : Goal). region (arenaOf (exchangedGame g)) one o (targets (exchangedGame g)) s) (goal-opposite g)
-      ∙ region-traded (arenaOf g) (turnsOf g) (turns-flipped g) (goalOf (g .objective)) (targets g) (targets (exchangedGame g)) (targets-opposite g ok) s l
+      ∙ region-traded (arenaOf g) (turnsOf g) (turns-flipped g) (goalOf (g .objective)) (targets g) (targets (exchangedGame g)) (exchanged-targets g ok) s l
 
   -- side 1 wins from just those states from which it did not win before
   pub wins-exchanged : Wins (exchangedGame g) s ↔ (Wins g s → ⊥)
@@ -47,11 +48,16 @@ module _ (g : Game) (ok : Accepted g) (s : ℕ) (l : s < g .states) where
 
 -- ## The rounds
 
+-- the choice of a border block does not look at the sides
+abbrev pub SideBlind : Choice → Type 0
+SideBlind choose = (g : Game) → AcceptedGame g → choose (exchangedGame g) ≡ choose g
+
 -- each round of the exchanged game is the exchange of the game's round
-pub round-exchanged : (k : ℕ) (g : Game) → Accepted g → round k (exchangedGame g) ≡ exchangedGame (round k g)
+pub round-exchanged : (choose : Choice) → SideBlind choose → (k : ℕ) (g : Game) → AcceptedGame g → round choose k (exchangedGame g) ≡ exchangedGame (round choose k g)
 unfolding round
-round-exchanged zero g ok = refl
-round-exchanged (suc k) g ok = ap (round k) (split-exchanged g ok) ∙ round-exchanged k (splitGame g) (split-accepted g ok)
+round-exchanged choose blind zero g ok = refl
+round-exchanged choose blind (suc k) g ok =
+    ap (round choose k) (split-exchanged g ok choose (blind g ok)) ∙ round-exchanged choose blind k (splitGame choose g) (split-accepted choose g ok)
 
 -- ## With a single start
 
@@ -68,18 +74,18 @@ module _ (g : Game) (start : ℕ) (single : SingleStart g start) where
   word-single = ap₂ (λ x y. cond (not x) NO (cond y YES OPEN)) (start-in (possibleStates g)) (start-in (sureStates g))
 
   -- a split keeps it
-  split-single : SingleStart (splitGame g) start
+  split-single : (choose : Choice) → SingleStart (splitGame choose g) start
   unfolding splitGame
-  split-single = record { state = single .state; chosen = single .chosen; only = single .only }
+  split-single choose = record { state = single .state; chosen = single .chosen; only = single .only }
 
-module _ (g : Game) (ok : Accepted g) (start : ℕ) (single : SingleStart g start) where
+module _ (g : Game) (ok : AcceptedGame g) (start : ℕ) (single : SingleStart g start) where
   -- the exchange keeps it
   pub exchanged-single : SingleStart (exchangedGame g) start
   unfolding exchangedGame
   exchanged-single = record {
     state = single .state;
-    chosen = subst T (sym (initials-same g ok start (single .state))) (single .chosen);
-    only = λ s l i. single .only s l (subst T (initials-same g ok s l) i);
+    chosen = subst T (sym (exchanged-initials g ok start (single .state))) (single .chosen);
+    only = λ s l i. single .only s l (subst T (exchanged-initials g ok s l) i);
   }
 
   -- YES and NO trade places, and OPEN stays
@@ -98,18 +104,19 @@ module _ (g : Game) (ok : Accepted g) (start : ℕ) (single : SingleStart g star
       go false false h = refl
 
 -- the exchanged run makes the same splits in the same order, and ends with the exchange of the last game
-pub run-exchanged : (a : ℕ) (g : Game) → Accepted g → (start : ℕ) → SingleStart g start → run a (exchangedGame g) ≡ tradeRun (run a g)
+pub run-exchanged : (choose : Choice) → SideBlind choose → (a : ℕ) (g : Game) → AcceptedGame g → (start : ℕ) → SingleStart g start
+    → run choose a (exchangedGame g) ≡ tradeRun (run choose a g)
 unfolding run
-run-exchanged zero g ok start single = refl
-run-exchanged (suc a) g ok start single =
-    rw (word-exchanged g ok start single, split-exchanged g ok)
-    (go (word g) (run-exchanged a (splitGame g) (split-accepted g ok) start (split-single g start single)))
+run-exchanged choose blind zero g ok start single = refl
+run-exchanged choose blind (suc a) g ok start single =
+    rw (word-exchanged g ok start single, split-exchanged g ok choose (blind g ok))
+    (go (word g) (run-exchanged choose blind a (splitGame choose g) (split-accepted choose g ok) start (split-single g start single choose)))
   where
     more : Run
-    more = run a (splitGame g)
+    more = run choose a (splitGame choose g)
 
-    go : (w : Word) → run a (exchangedGame (splitGame g)) ≡ tradeRun more
-        → ifOpen (tradeWord w) (oneMore (run a (exchangedGame (splitGame g)))) (ended (exchangedGame g)) ≡ tradeRun (ifOpen w (oneMore more) (ended g))
+    go : (w : Word) → run choose a (exchangedGame (splitGame choose g)) ≡ tradeRun more
+        → ifOpen (tradeWord w) (oneMore (run choose a (exchangedGame (splitGame choose g)))) (ended (exchangedGame g)) ≡ tradeRun (ifOpen w (oneMore more) (ended g))
     go YES ih = refl
     go NO ih = refl
     go OPEN ih = ap oneMore ih

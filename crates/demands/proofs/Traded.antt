@@ -4,27 +4,21 @@ use mathlib.Core.Path.{_≡_, refl, sym, ap, ap₂, _∙_, fun-ext}
 use mathlib.Core.Bool.{not, _&&_, _||_, cond}
 use lib.Dec.{eqb}
 use Rattle.arena.specs.Sets.{Set, compl, imp, some, every, least}
-use Rattle.arena.specs.Game.{Side, one, two, other, same, Game as Arena, mine, forced}
+use Rattle.arena.specs.Arena.{Side, one, two, other, same, Arena, mine, forced}
 use Rattle.arena.specs.Win.{Goal, toReach, toStay, swapGoal}
 use Rattle.arena.specs.Passes.{grow, rank}
 use Rattle.arena.proofs.Tests.{not-not}
 use Rattle.arena.proofs.Loops.{some-cong, every-cong}
 use Rattle.arena.proofs.Win.{reach, hold, region}
 use Rattle.blocks.specs.Blocks.{inside, meets}
-use Rattle.blocks.specs.Hunt.{insideStep, meetsStep, lower, upper}
+use Rattle.blocks.specs.Round.{insideStep, meetsStep}
+use Rattle.blocks.specs.Hunt.{lower, upper}
 
 -- ## Sets that agree below n
 
 -- X and Y have the same members below n
 abbrev pub Agree : ℕ → Set → Set → Type 0
 Agree n X Y = (s : ℕ) → s < n → X s ≡ Y s
-
--- they have the same lowest member
-pub least-cong : (n : ℕ) (X Y : Set) → Agree n X Y → least n X ≡ least n Y
-unfolding least
-least-cong zero X Y h = refl
-least-cong (suc n) X Y h =
-    ap₂ (λ b r. cond b zero (suc r)) (h 0 (suc-le-suc zero-le)) (least-cong n (λ s. X (suc s)) (λ s. Y (suc s)) (λ s l. h (suc s) (suc-le-suc l)))
 
 -- they have the same blocks inside
 pub inside-cong : (n : ℕ) (block : ℕ → ℕ) (X Y : Set) → Agree n X Y → (s : ℕ) → inside n block X s ≡ inside n block Y s

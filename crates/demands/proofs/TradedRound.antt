@@ -1,16 +1,17 @@
 -- One round in two arenas with the turns traded and opposite targets: sure and never trade places, the border is the same.
-use Prim.Native.Nat.{ℕ, suc, _<_}
+use Prim.Native.Nat.{ℕ, _<_}
 use mathlib.Core.Path.{_≡_, sym, ap, ap₂, _∙_}
 use mathlib.Core.Bool.{not, _&&_, and-comm}
 use Rattle.arena.specs.Sets.{Set, compl}
-use Rattle.arena.specs.Game.{Side, one, two, other, Game as Arena}
+use Rattle.arena.specs.Arena.{Side, one, two, other, Arena}
 use Rattle.arena.specs.Win.{Goal, toReach, toStay, swapGoal}
 use Rattle.arena.proofs.Tests.{not-not}
 use Rattle.blocks.specs.Blocks.{isBlock}
-use Rattle.blocks.specs.Round.{sure, possible, undecided, known, border, borderBlock, enteredSure, leftPossible}
+use Rattle.blocks.specs.Round.{sure, possible, undecided, intoKnown, border, borderBlock}
 use Rattle.blocks.specs.Hunt.{lower, upper}
-use Rattle.blocks.proofs.Hunt.{sure-reach, possible-reach, sure-stay, possible-stay, known-hunter, entered-rank, left-rank}
-use Rattle.demands.proofs.Traded.{Agree, least-cong, meets-cong, withTurns, forced-traded, lower-traded, upper-traded, rank-traded}
+use Rattle.blocks.proofs.Hunt.{sure-reach, possible-reach, sure-stay, possible-stay, known-hunter}
+use Rattle.demands.proofs.Traded.{Agree, meets-cong, withTurns, forced-traded, lower-traded, upper-traded}
+use Rattle.arena.proofs.Least.{least-cong}
 
 module _ (g : Arena) (turn : ℕ → Side) (flipped : (s : ℕ) → s < g .size → turn s ≡ other (g .turn s))
     (block : ℕ → ℕ) (A B : Set) (opposite : Agree (g .size) B (compl A)) where
@@ -44,7 +45,7 @@ module _ (g : Arena) (turn : ℕ → Side) (flipped : (s : ℕ) → s < g .size 
       ∙ and-comm (not (sure g block o A s)) (possible g block o A s)
 
   -- the set by which a border block is split is the same
-  pub known-traded : (o : Goal) → Agree (g .size) (known (withTurns g turn) block (swapGoal o) B) (known g block o A)
+  pub known-traded : (o : Goal) → Agree (g .size) (intoKnown (withTurns g turn) block (swapGoal o) B) (intoKnown g block o A)
   known-traded toReach s l =
       ap (λ (X : Set). X s) (known-hunter (withTurns g turn) block B toStay)
       ∙ forced-traded g turn flipped one _ _ (lower-traded g turn flipped one (compl B) A back block) s l
@@ -63,13 +64,3 @@ module _ (g : Arena) (turn : ℕ → Side) (flipped : (s : ℕ) → s < g .size 
   pub border-block-traded : (o : Goal) → borderBlock (withTurns g turn) block (swapGoal o) B ≡ borderBlock g block o A
   unfolding borderBlock
   border-block-traded o = least-cong (g .size) _ _ (λ b l. ap (λ x. isBlock block b && x) (border-traded o b l))
-
-  -- a state enters sure in the pass in which it dropped out of possible
-  pub entered-traded : (s : ℕ) → s < g .size → enteredSure (withTurns g turn) block B s ≡ leftPossible g block A s
-  entered-traded s l =
-      entered-rank (withTurns g turn) block B s ∙ ap suc (rank-traded g turn flipped two B (compl A) opposite block s l) ∙ sym (left-rank g block A s)
-
-  -- and drops out of possible in the pass in which it entered sure
-  pub left-traded : (s : ℕ) → s < g .size → leftPossible (withTurns g turn) block B s ≡ enteredSure g block A s
-  left-traded s l =
-      left-rank (withTurns g turn) block B s ∙ ap suc (rank-traded g turn flipped one (compl B) A back block s l) ∙ sym (entered-rank g block A s)

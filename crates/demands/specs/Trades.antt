@@ -5,8 +5,8 @@ use lib.Dec.{T}
 use Rattle.game.specs.Game.{stateNo, initials}
 use Rattle.game.specs.declared.Game.{Game}
 use Rattle.exchange.specs.Exchange.{exchangedGame}
-use Rattle.runs.specs.Run.{knownStates, borderOf, Word, YES, NO, OPEN, Run}
-use Rattle.solver.specs.Plan.{mark}
+use Rattle.runs.specs.Run.{intoKnownStates, lowestFirst, Word, YES, NO, OPEN, Run}
+use Rattle.solver.specs.Rules.{mark}
 use Rattle.solver.specs.declared.Verdict.{Verdict}
 use Rattle.solver.specs.declared.Verdict.the-variants.{Yes, No, Open, Refused}
 
@@ -40,6 +40,6 @@ tradeVerdict start (Refused e) = Refused e
 -- demand 3, 'the same splits in the same order': a round of h does what the same round of g does: the same blocks, the same border block parted by the same set, and traded marks
 pub record SameRound (g h : Game) : Type 0 where
   pub blocks : h .block ≡ g .block
-  pub border : borderOf h ≡ borderOf g
-  pub parts : (s : ℕ) → s < g .states → knownStates h s ≡ knownStates g s
+  pub border : lowestFirst h ≡ lowestFirst g
+  pub parts : (s : ℕ) → s < g .states → intoKnownStates h s ≡ intoKnownStates g s
   pub marks : (s : ℕ) → s < g .states → mark h s ≡ tradeMark (mark g s)

@@ -1,7 +1,5 @@
-pub mod Answers
-pub mod Bytes
 pub mod Fields
-pub mod Accepted
-pub mod Twice
-pub mod Game
-pub mod Calls
+pub mod Games
+pub mod ExchangedFiles
+pub mod Written
+pub mod Ends

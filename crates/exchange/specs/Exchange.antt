@@ -1,15 +1,16 @@
 -- Demand 3: exchange the sides. The exchanged game, and the file of it.
-use Prim.Native.Nat.{ℕ, zero, suc, _+_, _-_, _*_, _%_}
+use Prim.Native.Nat.{ℕ, _+_, _-_}
 use mathlib.Core.Bool.{cond}
-use mathlib.Core.List.{List}
-use lib.ListN.{length}
+use mathlib.Core.List.{List, _++_}
+use lib.ListN.{length, drop}
 use lib.Dec.{eqb, leb, ltb}
 use Rattle.game.specs.Rows.{fill}
 use Rattle.game.specs.Game.{turnAt, marksAt}
 use Rattle.game.specs.declared.Game.{Game}
-use Rattle.file.specs.Fault.{unless, _then_}
-use Rattle.file.specs.Layout.{byte, states}
+use Rattle.file.specs.Fault.{unless, _then_, refusedOr, keptOr}
+use Rattle.encoding.specs.Encode.{fileOf}
 use Rattle.file.specs.Refusals.{refusal}
+use Rattle.decoding.specs.Decode.{gameOf}
 use Rattle.exchange.specs.declared.Exchanged.{Exchanged}
 use Rattle.exchange.specs.declared.Exchanged.the-variants.{Written, Refused}
 
@@ -39,47 +40,28 @@ exchangedGame g =
       to = g .to;
     }
 
--- 01, 'Game file': what the byte b at place i of a file of n states becomes; place 8 is the objective, and byte 4 of
--- a state's record is its turn, byte 5 its marks
-unfoldable pub exchangedByte : ℕ → ℕ → ℕ → ℕ
-exchangedByte n i b =
-    cond (eqb i 8) (otherObjective b)
-    (cond (ltb i 10) b
-    (cond (leb (10 + 8 * n) i) b
-    (cond (eqb ((i - 10) % 8) 4) (otherTurn b)
-    (cond (eqb ((i - 10) % 8) 5) (otherMarks b) b))))
-
--- the bytes of the exchanged file, place by place
-abbrev pub exchangedBytes : List ℕ → ℕ → ℕ
-exchangedBytes f i = exchangedByte (states f) i (byte f i)
-
 -- 01, 'What is handed back': the file of the exchanged game
 unfoldable pub exchangedFile : List ℕ → List ℕ
-exchangedFile f = fill (length f) (exchangedBytes f) f
+exchangedFile f = fileOf (exchangedGame (gameOf f))
 
 -- 01, 'Refusals in their order': for the exchange, 1 if the lent output is shorter than the accepted file; tested last
 unfoldable pub exchangeFault : List ℕ → ℕ → ℕ
 exchangeFault f room = refusal f then unless (leb (length f) room) 1
 
--- 01, 'Refusals in their order': the number of each answer; 0 is that of a written file
-abbrev pub refusalNumber : Exchanged → ℕ
-refusalNumber (Written n) = 0
-refusalNumber (Refused n) = n
+-- 01, 'What is handed back': the exchange writes a file; the output after that keeps its content
+abbrev pub writtenOver : List ℕ → List ℕ → List ℕ
+writtenOver file out = file ++ drop (length file) out
 
--- a refusal returns its number alone; 0 stands for none, and the length is given
-abbrev pub answered : ℕ → ℕ → Exchanged
-answered zero n = Written n
-answered (suc e) n = Refused (suc e)
+-- what a call of the exchange hands back: its answer, and the output
+pub record Outcome : Type 0 where
+  pub answer : Exchanged
+  pub output : List ℕ
 
--- on a refusal the output keeps its content; 0 stands for none, and the new content is given
-abbrev pub kept : ℕ → List ℕ → List ℕ → List ℕ
-kept zero new old = new
-kept (suc e) new old = old
-
--- 01, 'What is handed back': the exchange returns the length
-unfoldable pub exchangeAnswer : List ℕ → List ℕ → Exchanged
-exchangeAnswer f out = answered (exchangeFault f (length out)) (length f)
-
--- 01, 'What is handed back': the exchange writes the file of the exchanged game; the output after that keeps its content
-unfoldable pub exchangeOutput : List ℕ → List ℕ → List ℕ
-exchangeOutput f out = kept (exchangeFault f (length out)) (fill (length f) (exchangedBytes f) out) out
+-- demand 3; 01, 'What is handed back': the exchange writes the file of the exchanged game and returns its length
+unfoldable pub exchanged : List ℕ → List ℕ → Outcome
+exchanged f out =
+    let e = exchangeFault f (length out) in
+    record {
+      answer = refusedOr Refused e (Written (length (exchangedFile f)));
+      output = keptOr out e (writtenOver (exchangedFile f) out);
+    }

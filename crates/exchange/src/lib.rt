@@ -1,10 +1,11 @@
 // The exchange: the file of the game with the sides exchanged.
 use file::first_refusal;
-use file::word_at;
+use file::number_at;
 ghost use mathlib.Core.Path.{_≡_};
 ghost use Prim.Native.Nat.{_≤_};
 ghost use Rattle.game.specs.Limits.{maxStates};
-ghost use Rattle.exchange.specs.Exchange.{otherTurn, otherObjective, otherMarks, exchangedByte, exchangeAnswer, exchangeOutput};
+ghost use Rattle.exchange.specs.Exchange.{otherTurn, otherObjective, otherMarks, exchanged};
+ghost use Rattle.exchange.specs.Bytes.{exchangedByte};
 
 // What the exchange answers: the length that it wrote, or the number of a refusal, 1 to 11.
 pub enum Exchanged {
@@ -55,8 +56,7 @@ fn exchanged_byte(n: usize, i: usize, b: u8) -> u8
 
 // Writes the file of the exchanged game into the first bytes of the output. A refusal leaves the output as it was.
 pub fn exchange(file: &[u8], out: &mut [u8]) -> Exchanged
-    ensures answer { λ r. ⌜ r ≡ exchangeAnswer (now (file .entry)) (now (out .entry)) ⌝ }
-    ensures output { λ r. ⌜ now (out .exit) ≡ exchangeOutput (now (file .entry)) (now (out .entry)) ⌝ }
+    ensures { λ r. ⌜ record { answer = r; output = now (out .exit) } ≡ exchanged (now (file .entry)) (now (out .entry)) ⌝ }
 {
     let e = first_refusal(file);
     if e != 0 {
@@ -65,7 +65,7 @@ pub fn exchange(file: &[u8], out: &mut [u8]) -> Exchanged
     if out.len() < file.len() {
         return Exchanged::Refused(1);
     }
-    let n = word_at(file, 4) as usize;
+    let n = number_at(file, 4) as usize;
     let mut i: usize = 0;
     while i < file.len() {
         out[i] = exchanged_byte(n, i, file[i]);

@@ -4,7 +4,7 @@ use mathlib.Core.Bool.{Bool, true, false, not, true≢false}
 use mathlib.Core.List.{List}
 use Prim.Native.Nat.{ℕ, zero, suc, _+_, _-_, _*_, _≤_, _<_}
 use native.Mathlib.Nat.{zero-add, suc-add, not-suc-le-zero, eq-or-lt-of-le, le-of-suc-le-suc}
-use mathlib.Core.Logic.{⊎-elim}
+use mathlib.Core.Logic.{_⊎_, inl, inr, ⊎-elim}
 use native.Mathlib.Numerals.{add-one}
 use native.Mathlib.Omega.{arith}
 use lib.ListN.{length}
@@ -12,8 +12,8 @@ use lib.Dec.{T, eqb, leb, ltb}
 use Rattle.arena.proofs.Choices.{both, first-not, second-not}
 use borrow.Author.Needs.{needs}
 use borrow.Author.Tests.{eq-eqb, ne-eqb, le-leb, lt-leb, lt-ltb, le-ltb, leb-true, not-true, not-false}
-use Rattle.file.specs.Fault.{unless, when, _then_, lowest}
-use Rattle.file.specs.Layout.{word, moveAt, states, from, to}
+use Rattle.file.specs.Fault.{unless, _then_, lowest, refusedOr}
+use Rattle.file.specs.Layout.{numberAt, moveAt, states, from, to}
 use Rattle.file.specs.Refusals.{frame, pairBelow, ascends}
 
 -- ## Chains of tests, for the code that walks along them
@@ -48,50 +48,20 @@ pub unless-end : (t : Bool) (v : ℕ) → t ≡ true → 0 ≡ unless t v
 unfolding unless
 unless-end t v e = rw e refl
 
-pub when-stop : (t : Bool) (b v : ℕ) → T (ltb 0 v) → t ≡ true → v ≡ (when t v then b)
-unfolding _then_ when
-when-stop false b v h e = absurd (true≢false (sym e))
-when-stop true b zero h e = absurd h
-when-stop true b (suc v) h e = refl
+-- a test that a call made, turned round by the code or by the definition; r is the call's result
+pub call-failed : (r t : Bool) → r ≡ t → not r ≡ true → t ≡ false
+call-failed r t q e = sym q ∙ not-true r e
 
-pub when-pass : (t : Bool) (b v w : ℕ) → t ≡ false → w ≡ b → w ≡ (when t v then b)
-unfolding _then_ when
-when-pass t b v w e r = rw e r
+pub call-passed : (r t : Bool) → r ≡ t → not r ≡ false → t ≡ true
+call-passed r t q e = sym q ∙ not-false r e
 
-pub when-last : (t : Bool) (v : ℕ) → t ≡ true → v ≡ when t v
-unfolding when
-when-last t v e = rw e refl
+pub call-found : (r t : Bool) → r ≡ t → r ≡ true → not t ≡ false
+call-found r t q e = rw (← q, e)
 
-pub when-end : (t : Bool) (v : ℕ) → t ≡ false → 0 ≡ when t v
-unfolding when
-when-end t v e = rw e refl
+pub call-none : (r t : Bool) → r ≡ t → r ≡ false → not t ≡ true
+call-none r t q e = rw (← q, e)
 
--- a test that a call made: r is its result
-pub unless-call-stop : (r t : Bool) (b v : ℕ) → r ≡ t → T (ltb 0 v) → not r ≡ true → v ≡ (unless t v then b)
-unless-call-stop r t b v q h e = unless-stop t b v h (sym q ∙ not-true r e)
-
-pub unless-call-pass : (r t : Bool) (b v w : ℕ) → r ≡ t → not r ≡ false → w ≡ b → w ≡ (unless t v then b)
-unless-call-pass r t b v w q e p = unless-pass t b v w (sym q ∙ not-false r e) p
-
-pub when-call-stop : (r t : Bool) (b v : ℕ) → r ≡ t → T (ltb 0 v) → r ≡ true → v ≡ (when t v then b)
-when-call-stop r t b v q h e = when-stop t b v h (sym q ∙ e)
-
-pub when-call-pass : (r t : Bool) (b v w : ℕ) → r ≡ t → r ≡ false → w ≡ b → w ≡ (when t v then b)
-when-call-pass r t b v w q e p = when-pass t b v w (sym q ∙ e) p
-
-pub when-call-last : (r t : Bool) (v : ℕ) → r ≡ t → r ≡ true → v ≡ when t v
-when-call-last r t v q e = when-last t v (sym q ∙ e)
-
-pub when-call-end : (r t : Bool) (v : ℕ) → r ≡ t → r ≡ false → 0 ≡ when t v
-when-call-end r t v q e = when-end t v (sym q ∙ e)
-
-pub unless-call-last : (r t : Bool) (v : ℕ) → r ≡ t → not r ≡ true → v ≡ unless t v
-unless-call-last r t v q e = unless-last t v (sym q ∙ not-true r e)
-
-pub unless-call-end : (r t : Bool) (v : ℕ) → r ≡ t → not r ≡ false → 0 ≡ unless t v
-unless-call-end r t v q e = unless-end t v (sym q ∙ not-false r e)
-
-pub ruleset calls = (unless-call-stop, unless-call-pass, unless-call-last, unless-call-end, when-call-stop, when-call-pass, when-call-last, when-call-end)
+pub ruleset calls = (call-failed, call-passed, call-found, call-none)
 
 -- ## Tests of what a call gave
 
@@ -119,7 +89,22 @@ eq-left x a b e h = eq-eqb a b (sym e ∙ h)
 pub ne-left : (x a b : ℕ) → x ≡ a → (x ≡ b → ⊥) → eqb a b ≡ false
 ne-left x a b e h = ne-eqb a b (λ q. h (e ∙ q))
 
-pub ruleset faults = (then-fault, then-none, unless-stop, unless-pass, unless-last, unless-end, when-stop, when-pass, when-last, when-end, le-leb, lt-leb, lt-ltb, le-ltb, eq-eqb, ne-eqb, le-left, le-right, gt-left, gt-right, lt-left, ge-left, eq-left, ne-left, both, first-not, second-not, needs)
+pub ruleset faults = (then-fault, then-none, unless-stop, unless-pass, unless-last, unless-end, le-leb, lt-leb, lt-ltb, le-ltb, eq-eqb, ne-eqb, le-left, le-right, gt-left, gt-right, lt-left, ge-left, eq-left, ne-left, both, first-not, second-not, needs)
+
+-- ## An answer or a refusal; e is the fault that a call gave
+
+module _ {A : Type 0} (refused : ℕ → A) (x : A) where
+  pub refused-given : (e r : ℕ) (v : A) → e ≡ r → (e ≡ 0 → ⊥) → v ≡ refused e → v ≡ refusedOr refused r x
+  refused-given e zero v p q w = absurd (q p)
+  refused-given e (suc r) v p q w = rw p at w
+
+  pub answer-given : (e r : ℕ) (v : A) → e ≡ r → e ≡ 0 → v ≡ x → v ≡ refusedOr refused r x
+  answer-given e r v p q w = let z : r ≡ 0 = sym p ∙ q in rw z w
+
+  -- what is given is the answer, or a refusal
+  pub given-cases : (r : ℕ) (v : A) → v ≡ refusedOr refused r x → ((r ≡ 0) × (v ≡ x)) ⊎ ((r ≡ 0 → ⊥) × (v ≡ refused r))
+  given-cases zero v w = inl (refl, w)
+  given-cases (suc r) v w = inr ((λ z. omega arith), w)
 
 -- ## What a passed test says
 
@@ -134,21 +119,9 @@ unless-zero true v h e = refl
 unless-zero false zero h e = absurd h
 unless-zero false (suc v) h e = absurd (omega arith)
 
-pub when-zero : (t : Bool) (v : ℕ) → T (ltb 0 v) → when t v ≡ 0 → t ≡ false
-unfolding when
-when-zero false v h e = refl
-when-zero true zero h e = absurd h
-when-zero true (suc v) h e = absurd (omega arith)
-
 -- the other way: no fault
 pub zero-then : (a b : ℕ) → a ≡ 0 → b ≡ 0 → (a then b) ≡ 0
 zero-then a b p q = sym (then-none a b a 0 refl p (sym q))
-
-pub unless-ok : (t : Bool) (v : ℕ) → t ≡ true → unless t v ≡ 0
-unless-ok t v e = sym (unless-end t v e)
-
-pub when-ok : (t : Bool) (v : ℕ) → t ≡ false → when t v ≡ 0
-when-ok t v e = sym (when-end t v e)
 
 pub frame-long : (f : List ℕ) (at len kind e : ℕ) → e ≡ frame f at len kind → e ≡ 0 → at + 2 + len ≤ length f
 unfolding frame
@@ -206,7 +179,7 @@ unfolding moveAt
 move-start f k = omega arith
 
 -- what the code reads of move k, at place i, and of the one before, at place j
-pub ascends-is : (f : List ℕ) (k i j : ℕ) → i ≡ moveAt f k → j ≡ moveAt f (k - 1) → (k ≡ 0 → ⊥) → (x s y t : ℕ) → x ≡ word f (j + 4) → s ≡ word f (j + 6) → y ≡ word f (i + 4) → t ≡ word f (i + 6) → pairBelow x s y t ≡ ascends f k
+pub ascends-is : (f : List ℕ) (k i j : ℕ) → i ≡ moveAt f k → j ≡ moveAt f (k - 1) → (k ≡ 0 → ⊥) → (x s y t : ℕ) → x ≡ numberAt f (j + 4) → s ≡ numberAt f (j + 6) → y ≡ numberAt f (i + 4) → t ≡ numberAt f (i + 6) → pairBelow x s y t ≡ ascends f k
 unfolding ascends
 ascends-is f k i j p q later x s y t a b c d = rw (a, b, c, d, p, q) (go (k - 1) (omega arith))
   where

@@ -6,15 +6,15 @@ use Prim.Native.Nat.{ℕ, _+_, _-_, _*_, _≤_, _<_}
 use native.Mathlib.Omega.{arith}
 use lib.ListN.{length}
 use lib.Dec.{leb}
-use borrow.Author.Tests.{leb-true, eqb-true, ltb-true, ltb-false}
+use borrow.Author.Tests.{leb-true, eqb-true, ltb-true, not-true}
 use Rattle.arena.specs.Sets.{some, every}
 use Rattle.game.specs.Limits.{maxStates, maxMoves}
 use Rattle.game.specs.Game.{within, knownObjective, knownTurn}
 use Rattle.file.specs.Fault.{lowest}
-use Rattle.file.specs.Layout.{word, states, moves, objective, turn, marks, block, moveAt, from, to}
+use Rattle.file.specs.Layout.{numberAt, states, moves, objective, turn, marks, block, moveAt, from, to}
 use Rattle.file.specs.Refusals.{headFields, headFault, stateFields, stateFault, ascends, moveFields, moveFault, initial, target, moved, mixed, blockFault, wholeFault, refusal}
 use Rattle.file.specs.Sound.{Sound}
-use Rattle.file.proofs.Laws.{then-zero, unless-zero, when-zero, frame-long, lowest-zero, move-next, move-mono, move-start}
+use Rattle.file.proofs.Laws.{then-zero, unless-zero, frame-long, lowest-zero, move-next, move-mono, move-start}
 
 -- both parts of a passed test
 pub and-first : (a b : Bool) → (a && b) ≡ true → a ≡ true
@@ -144,11 +144,11 @@ accepted-whole f e =
     let c = then-zero _ _ (b .1) in
     let d = then-zero _ _ (c .1) in
     record {
-      ends = ltb-false _ _ (when-zero _ 7 tt (a .0));
+      ends = leb-true _ _ (unless-zero _ 7 tt (a .0));
       start = unless-zero _ 8 tt (b .0);
       moving = unless-zero _ 9 tt (c .0);
-      starts-apart = when-zero _ 10 tt (d .0);
-      target-apart = when-zero _ 11 tt (d .1);
+      starts-apart = not-true _ (unless-zero _ 10 tt (d .0));
+      target-apart = not-true _ (unless-zero _ 11 tt (d .1));
     }
 
 -- 01, 'Game file': an accepted file is 10 + 8 × states + 8 × moves bytes long; at most 36,874
@@ -162,7 +162,7 @@ exact-length f e =
 -- ## What the code reads of a sound file of n states and m moves
 
 module _ (f : List ℕ) (n : ℕ) (e : n ≡ states f) (g : Sound f) where
-  module _ (s x : ℕ) (l : s < n) (p : x ≡ word f (10 + 8 * s + 6)) where
+  module _ (s x : ℕ) (l : s < n) (p : x ≡ numberAt f (10 + 8 * s + 6)) where
     pub block-below : x ≤ s
     block-below = omega (arith, g .below s (omega arith))
 
@@ -170,5 +170,5 @@ module _ (f : List ℕ) (n : ℕ) (e : n ≡ states f) (g : Sound f) where
     pub move-inside : i + 8 ≤ length f
     move-inside = omega (arith, move-mono f k (moves f) (omega arith), g .long)
 
-    pub from-small : (x : ℕ) → x ≡ word f (i + 4) → x < maxStates
-    from-small x r = omega (arith, r, ap (λ (i : ℕ). word f (i + 4)) p, g .froms k (omega arith), g .few-states)
+    pub from-small : (x : ℕ) → x ≡ numberAt f (i + 4) → x < maxStates
+    from-small x r = omega (arith, r, ap (λ (i : ℕ). numberAt f (i + 4)) p, g .froms k (omega arith), g .few-states)

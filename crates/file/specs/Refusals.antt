@@ -7,15 +7,15 @@ use lib.Dec.{eqb, leb, ltb}
 use Rattle.arena.specs.Sets.{Set, some, every}
 use Rattle.game.specs.Limits.{maxStates, maxMoves}
 use Rattle.game.specs.Game.{within, knownObjective, knownTurn, marked}
-use Rattle.file.specs.Fault.{unless, when, _then_, lowest}
-use Rattle.file.specs.Layout.{word, states, moves, objective, stateAt, turn, marks, block, moveAt, from, to}
+use Rattle.file.specs.Fault.{unless, _then_, lowest}
+use Rattle.file.specs.Layout.{numberAt, states, moves, objective, stateAt, turn, marks, block, moveAt, from, to}
 
 -- 2 if fewer than 4 bytes remain; 3 for its length or kind; 2 if its body is cut
 unfoldable pub frame : List ℕ → ℕ → ℕ → ℕ → ℕ
 frame f at len kind =
     unless (leb (at + 4) (length f)) 2
-    then unless (eqb (word f at) len) 3
-    then unless (eqb (word f (at + 2)) kind) 3
+    then unless (eqb (numberAt f at) len) 3
+    then unless (eqb (numberAt f (at + 2)) kind) 3
     then unless (leb (at + 2 + len) (length f)) 2
 
 -- 4: states, moves or objective outside the ranges above
@@ -82,12 +82,12 @@ mixed f X = some (states f) (λ b. member f X b && member f (λ s. not (X s)) b)
 
 -- 10: a block has initial and other members; 11: a block has target and other members
 unfoldable pub blockFault : List ℕ → ℕ
-blockFault f = when (mixed f (initial f)) 10 then when (mixed f (target f)) 11
+blockFault f = unless (not (mixed f (initial f))) 10 then unless (not (mixed f (target f))) 11
 
 -- 7: bytes after the last announced move; 8: no initial state; 9: a state without a move; then 10 and 11
 unfoldable pub wholeFault : List ℕ → ℕ
 wholeFault f =
-    when (ltb (moveAt f (moves f)) (length f)) 7
+    unless (leb (length f) (moveAt f (moves f))) 7
     then unless (some (states f) (initial f)) 8
     then unless (every (states f) (moved f)) 9
     then blockFault f

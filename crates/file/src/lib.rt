@@ -9,7 +9,7 @@ ghost use Rattle.game.specs.Limits.{maxStates, maxMoves};
 ghost use Rattle.game.specs.Rows.{Cells};
 ghost use Rattle.game.specs.Game.{within, marked};
 ghost use Rattle.file.specs.Fault.{lowest};
-ghost use Rattle.file.specs.Layout.{byte, word, states, moves, stateAt, moveAt};
+ghost use Rattle.file.specs.Layout.{byte, numberAt, states, moves, stateAt, moveAt};
 ghost use Rattle.file.specs.Refusals.{frame, headFields, headFault, stateFields, stateFault, pairBelow, ascends, moveFields, moveFault, initial, moved, mixed, blockFault, wholeFault, refusal};
 ghost use Rattle.file.specs.Sound.{Sound};
 
@@ -20,9 +20,9 @@ fn pair(low: u8, high: u8) -> u16
 }
 
 // The two bytes at a place, the low one first.
-pub fn word_at(file: &[u8], at: usize) -> u16
+pub fn number_at(file: &[u8], at: usize) -> u16
     requires { ⌜ at + 1 < length (now file) ⌝ }
-    ensures { λ r. ⌜ r ≡ word (now (file .entry)) at ⌝ }
+    ensures { λ r. ⌜ r ≡ numberAt (now (file .entry)) at ⌝ }
 {
     pair(file[at], file[at + 1])
 }
@@ -35,10 +35,10 @@ fn frame_fault(file: &[u8], at: usize, len: u16, kind: u16) -> u8
     if file.len() < at + 4 {
         return 2;
     }
-    if word_at(file, at) != len {
+    if number_at(file, at) != len {
         return 3;
     }
-    if word_at(file, at + 2) != kind {
+    if number_at(file, at + 2) != kind {
         return 3;
     }
     if file.len() < at + 2 + len as usize {
@@ -48,11 +48,11 @@ fn frame_fault(file: &[u8], at: usize, len: u16, kind: u16) -> u8
 }
 
 // The two bytes at a place are a number from low to high.
-fn word_within(file: &[u8], at: usize, low: usize, high: usize) -> bool
+fn number_within(file: &[u8], at: usize, low: usize, high: usize) -> bool
     requires { ⌜ at + 1 < length (now file) ⌝ }
-    ensures { λ r. ⌜ r ≡ within low high (word (now (file .entry)) at) ⌝ }
+    ensures { λ r. ⌜ r ≡ within low high (numberAt (now (file .entry)) at) ⌝ }
 {
-    let x = word_at(file, at) as usize;
+    let x = number_at(file, at) as usize;
     if x < low {
         return false;
     }
@@ -64,13 +64,13 @@ fn head_fields(file: &[u8]) -> u8
     requires { ⌜ 10 ≤ length (now file) ⌝ }
     ensures { λ r. ⌜ r ≡ headFields (now (file .entry)) ⌝ }
 {
-    if !word_within(file, 4, 1, Game::MAX_STATES) {
+    if !number_within(file, 4, 1, Game::MAX_STATES) {
         return 4;
     }
-    if !word_within(file, 6, 1, Game::MAX_MOVES) {
+    if !number_within(file, 6, 1, Game::MAX_MOVES) {
         return 4;
     }
-    if !word_within(file, 8, 1, 2) {
+    if !number_within(file, 8, 1, 2) {
         return 4;
     }
     0
@@ -102,12 +102,12 @@ fn state_fields(file: &[u8], s: usize) -> u8
     if file[at + 5] > 3 {
         return 5;
     }
-    let b = word_at(file, at + 6);
+    let b = number_at(file, at + 6);
     let i = b as usize;
     if i > s {
         return 5;
     }
-    if word_at(file, 10 + 8 * i + 6) != b {
+    if number_at(file, 10 + 8 * i + 6) != b {
         return 5;
     }
     0
@@ -168,11 +168,11 @@ fn ascends_at(file: &[u8], n: usize, k: usize, at: usize) -> bool
     if k == 0 {
         return true;
     }
-    let from = word_at(file, at + 4);
-    let to = word_at(file, at + 6);
+    let from = number_at(file, at + 4);
+    let to = number_at(file, at + 6);
     let before = move_at(file, n, k - 1);
-    let from_before = word_at(file, before + 4);
-    let to_before = word_at(file, before + 6);
+    let from_before = number_at(file, before + 4);
+    let to_before = number_at(file, before + 6);
     pair_below(from_before, to_before, from, to)
 }
 
@@ -181,11 +181,11 @@ fn move_fields(file: &[u8], n: usize, k: usize, at: usize) -> u8
     requires { ⌜ (at ≡ moveAt (now file) k) × (n ≡ states (now file)) × (n ≤ maxStates) × (k < maxMoves) × (at + 8 ≤ length (now file)) ⌝ }
     ensures { λ r. ⌜ r ≡ moveFields (now (file .entry)) k ⌝ }
 {
-    let from = word_at(file, at + 4);
+    let from = number_at(file, at + 4);
     if from as usize >= n {
         return 6;
     }
-    let to = word_at(file, at + 6);
+    let to = number_at(file, at + 6);
     if to as usize >= n {
         return 6;
     }
@@ -247,7 +247,7 @@ fn moved_row(file: &[u8], n: usize, m: usize) -> [u8; Game::MAX_STATES]
     let mut k: usize = 0;
     while k < m {
         let at = move_at(file, n, k);
-        let from = word_at(file, at + 4) as usize;
+        let from = number_at(file, at + 4) as usize;
         has[from] = 1;
         k += 1;
     }
@@ -278,7 +278,7 @@ fn mixed_blocks(file: &[u8], n: usize, field: usize, mark: u8) -> bool
 {
     let mut s: usize = 0;
     while s < n {
-        let b = word_at(file, 10 + 8 * s + 6) as usize;
+        let b = number_at(file, 10 + 8 * s + 6) as usize;
         let own = has_mark(mark, file[10 + 8 * s + field]);
         let first = has_mark(mark, file[10 + 8 * b + field]);
         if own != first {
@@ -328,8 +328,8 @@ pub fn first_refusal(file: &[u8]) -> u8
     if head != 0 {
         return head;
     }
-    let n = word_at(file, 4) as usize;
-    let m = word_at(file, 6) as usize;
+    let n = number_at(file, 4) as usize;
+    let m = number_at(file, 6) as usize;
     let state = states_fault(file, n);
     if state != 0 {
         return state;

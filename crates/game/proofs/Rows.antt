@@ -9,7 +9,7 @@ use native.Mathlib.Numerals.{add-one}
 use native.Mathlib.Omega.{arith}
 use borrow.Author.Needs.{needs}
 use borrow.Author.Tests.{eq-eqb, ne-eqb}
-use lib.ListN.{length, getD, set, take, drop, length-set, length-replicate}
+use lib.ListN.{length, getD, set, drop, length-set, length-replicate, getD-replicate}
 use lib.Seq.{drop-nil, getD-set-same, getD-set-other}
 use Rattle.arena.specs.Sets.{some, bit}
 use Rattle.arena.proofs.Loops.{some-more, tests}
@@ -46,6 +46,27 @@ module _ {A : Type 0} where
   unfolding fill
   fill-cell n f d k a l = tab-cell n 0 f (drop n d) k a l ∙ ap f (add-zero k)
 
+  tab-past : (n i : ℕ) (f : ℕ → A) (d : List A) (k : ℕ) (a : A) → n ≤ k → getD (tabulate i n f ++ drop n d) k a ≡ getD d k a
+  unfolding tabulate
+  tab-past zero i f d k a l = refl
+  tab-past (suc n) i f d zero a l = absurd (not-suc-le-zero l)
+  tab-past (suc n) i f [] (suc k) a l = rw (drop-nil n) at (tab-past n (suc i) f [] k a (le-of-suc-le-suc l))
+  tab-past (suc n) i f (x ∷ d) (suc k) a l = tab-past n (suc i) f d k a (le-of-suc-le-suc l)
+
+  pub fill-past : (n : ℕ) (f : ℕ → A) (d : List A) (k : ℕ) (a : A) → n ≤ k → getD (fill n f d) k a ≡ getD d k a
+  unfolding fill
+  fill-past n f d k a l = tab-past n 0 f d k a l
+
+  tab-length : (n i : ℕ) (f : ℕ → A) (d : List A) → n ≤ length d → length (tabulate i n f ++ drop n d) ≡ length d
+  unfolding tabulate
+  tab-length zero i f d l = refl
+  tab-length (suc n) i f [] l = absurd (not-suc-le-zero l)
+  tab-length (suc n) i f (x ∷ d) l = ap suc (tab-length n (suc i) f d (le-of-suc-le-suc l))
+
+  pub fill-length : (n : ℕ) (f : ℕ → A) (d : List A) → n ≤ length d → length (fill n f d) ≡ length d
+  unfolding fill
+  fill-length n f d l = tab-length n 0 f d l
+
   tab-cong : (n i : ℕ) (f g : ℕ → A) → ((k : ℕ) → k < n → f (k + i) ≡ g (k + i)) → tabulate i n f ≡ tabulate i n g
   unfolding tabulate
   tab-cong zero i f g h = refl
@@ -58,72 +79,49 @@ module _ {A : Type 0} where
   unfolding fill
   fill-cong n f g d h = ap (λ (t : List A). t ++ drop n d) (tab-cong n 0 f g (λ k l. rw add-zero (h k l)))
 
+  tab-row : (row : List A) (i : ℕ) (f : ℕ → A) (a : A) → ((k : ℕ) → k < length row → f (k + i) ≡ getD row k a) → tabulate i (length row) f ≡ row
+  unfolding tabulate
+  tab-row [] i f a h = refl
+  tab-row (x ∷ row) i f a h =
+      ap₂ _∷_ (rw zero-add at (h 0 (omega arith))) (tab-row row (suc i) f a (λ k l. rw (add-suc, ← suc-add) (h (suc k) (omega arith))))
+
+  -- filled with the values of another row, a row begins with that one
+  pub fill-row : (row : List A) (f : ℕ → A) (a : A) (d : List A) → ((k : ℕ) → k < length row → f k ≡ getD row k a) → fill (length row) f d ≡ row ++ drop (length row) d
+  unfolding fill
+  fill-row row f a d h = ap (λ (t : List A). t ++ drop (length row) d) (tab-row row 0 f a (λ k l. rw add-zero (h k l)))
+
   tab-drop : (n i : ℕ) (f : ℕ → A) (d : List A) → drop n (tabulate i n f ++ d) ≡ d
   unfolding tabulate
   tab-drop zero i f d = refl
   tab-drop (suc n) i f d = tab-drop n (suc i) f d
 
-  tab-take : (n i : ℕ) (f : ℕ → A) (d : List A) → take n (tabulate i n f ++ d) ≡ tabulate i n f
-  unfolding tabulate
-  tab-take zero i f d = refl
-  tab-take (suc n) i f d = ap (λ (t : List A). f i ∷ t) (tab-take n (suc i) f d)
-
-  -- the filled places do not depend on the row, and the others are the row's
-  pub fill-take : (n : ℕ) (f : ℕ → A) (d e : List A) → take n (fill n f d) ≡ take n (fill n f e)
-  unfolding fill
-  fill-take n f d e = tab-take n 0 f (drop n d) ∙ sym (tab-take n 0 f (drop n e))
-
+  -- the places that are not filled are the row's
   pub fill-drop : (n : ℕ) (f : ℕ → A) (d : List A) → drop n (fill n f d) ≡ drop n d
   unfolding fill
   fill-drop n f d = tab-drop n 0 f (drop n d)
-
-  -- what is filled again forgets the first filling
-  pub fill-again : (n : ℕ) (f g : ℕ → A) (d : List A) → fill n f (fill n g d) ≡ fill n f d
-  unfolding fill
-  fill-again n f g d = ap (λ (t : List A). tabulate 0 n f ++ t) (tab-drop n 0 g (drop n d))
 
   pub blank-length : (n : ℕ) (a : A) → length (blank n a) ≡ n
   unfolding blank
   blank-length n a = length-replicate n a
 
+  pub blank-cell : (n k : ℕ) (a : A) → getD (blank n a) k a ≡ a
+  unfolding blank
+  blank-cell zero k a = refl
+  blank-cell (suc n) zero a = refl
+  blank-cell (suc n) (suc k) a = blank-cell n k a
+
 pub fill-at : (n : ℕ) (f : ℕ → ℕ) (d : List ℕ) (k : ℕ) → k < n → getD (fill n f d) k 0 ≡ f k
 fill-at n f d k l = fill-cell n f d k 0 l
-
-tab-past : (n i : ℕ) (f : ℕ → ℕ) (d : List ℕ) (k : ℕ) → n ≤ k → getD (tabulate i n f ++ drop n d) k 0 ≡ getD d k 0
-unfolding tabulate
-tab-past zero i f d k l = refl
-tab-past (suc n) i f d zero l = absurd (not-suc-le-zero l)
-tab-past (suc n) i f [] (suc k) l = rw (drop-nil n) at (tab-past n (suc i) f [] k (le-of-suc-le-suc l))
-tab-past (suc n) i f (x ∷ d) (suc k) l = tab-past n (suc i) f d k (le-of-suc-le-suc l)
-
-pub fill-past : (n : ℕ) (f : ℕ → ℕ) (d : List ℕ) (k : ℕ) → n ≤ k → getD (fill n f d) k 0 ≡ getD d k 0
-unfolding fill
-fill-past n f d k l = tab-past n 0 f d k l
-
-tab-length : (n i : ℕ) (f : ℕ → ℕ) (d : List ℕ) → n ≤ length d → length (tabulate i n f ++ drop n d) ≡ length d
-unfolding tabulate
-tab-length zero i f d l = refl
-tab-length (suc n) i f [] l = absurd (not-suc-le-zero l)
-tab-length (suc n) i f (x ∷ d) l = ap suc (tab-length n (suc i) f d (le-of-suc-le-suc l))
-
-pub fill-length : (n : ℕ) (f : ℕ → ℕ) (d : List ℕ) → n ≤ length d → length (fill n f d) ≡ length d
-unfolding fill
-fill-length n f d l = tab-length n 0 f d l
 
 pub zeros-length : (n : ℕ) → length (zeros n) ≡ n
 zeros-length n = blank-length {A = ℕ} n 0
 
 pub blank-at : (n a s : ℕ) → s < n → getD (blank n a) s 0 ≡ a
 unfolding blank
-blank-at zero a s l = absurd (not-suc-le-zero l)
-blank-at (suc n) a zero l = refl
-blank-at (suc n) a (suc s) l = blank-at n a s (le-of-suc-le-suc l)
+blank-at n a s l = getD-replicate n s a 0 l
 
 pub zeros-at : (n s : ℕ) → getD (zeros n) s 0 ≡ 0
-unfolding blank
-zeros-at zero s = refl
-zeros-at (suc n) zero = refl
-zeros-at (suc n) (suc s) = zeros-at n s
+zeros-at n s = blank-cell n s 0
 
 -- ## A loop that stores anywhere
 

@@ -4,11 +4,11 @@ use native.Mathlib.Omega.{arith}
 use mir.Syntax.{w64}
 use mir.Val.{Fits}
 use Rattle.game.specs.Game.{blockAt, fromAt, toAt}
-use Rattle.game.specs.Accepted.{Accepted}
+use Rattle.game.specs.Accepted.{AcceptedGame}
 use Rattle.game.specs.declared.Game.{Game}
 use Rattle.game.proofs.Rows.{walk}
 
-module _ (g : Game) (a : Accepted g) where
+module _ (g : Game) (a : AcceptedGame g) where
   pub state-small : (s : ℕ) → s < g .states → s < 512
   state-small s l = omega (arith, a .few-states)
 

@@ -4,11 +4,11 @@ use mathlib.Core.Logic.{_⊎_, inl, inr, ⊎-elim}
 use Prim.Native.Nat.{ℕ, _≤_, _<_}
 use native.Mathlib.Omega.{arith}
 use lib.Dec.{T, eqb, leb, leb→le}
-use Rattle.arena.specs.Game.{other, same}
+use Rattle.arena.specs.Arena.{other, same}
 use Rattle.arena.proofs.Tests.{and-l, and-r}
 use Rattle.arena.proofs.Loops.{le-or-lt}
 use Rattle.game.specs.Game.{knownTurn}
-use Rattle.game.specs.Arena.{sideOf}
+use Rattle.game.specs.Published.{sideOf}
 
 -- a turn that is known is 1 or 2
 pub turn-cases : (a : ℕ) → T (knownTurn a) → (a ≡ 1) ⊎ (a ≡ 2)

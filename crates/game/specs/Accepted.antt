@@ -18,7 +18,7 @@ Ascending g = (k : ℕ) → suc k < g .moves
     → (fromAt g k < fromAt g (suc k)) ⊎ ((fromAt g k ≡ fromAt g (suc k)) × (toAt g k < toAt g (suc k)))
 
 -- 01, 'Refusals in their order': what refusals 4 to 6 and 8 to 11 leave
-pub record Accepted (g : Game) : Type 0 where
+pub record AcceptedGame (g : Game) : Type 0 where
   -- the counts are in range
   pub some-states : 1 ≤ g .states
   pub few-states : g .states ≤ maxStates

@@ -1,6 +1,7 @@
 -- What the rows of a game say.
 use Prim.Native.Nat.{ℕ}
 use mathlib.Core.Bool.{Bool, _&&_, _||_}
+use mathlib.Core.List.{List}
 use lib.ListN.{getD}
 use lib.Dec.{eqb, leb}
 use Rattle.arena.specs.Sets.{Set, some}
@@ -65,6 +66,20 @@ targets g s = marked 2 (marksAt g s)
 -- 01, 'The game': there is a move from s to t
 unfoldable pub hasMove : Game → ℕ → ℕ → Bool
 hasMove g s t = some (g .moves) (λ k. eqb (fromAt g k) s && eqb (toAt g k) t)
+
+-- 01, 'One round': the game with another row of blocks
+abbrev pub reblocked : Game → List BlockNo → Game
+reblocked g row =
+    record {
+      states = g .states;
+      moves = g .moves;
+      objective = g .objective;
+      turn = g .turn;
+      marks = g .marks;
+      block = row;
+      from = g .from;
+      to = g .to;
+    }
 
 -- the game that stands beside a refusal
 unfoldable pub emptyGame : Game

@@ -1,5 +1,7 @@
 pub mod Limits
 pub mod Rows
 pub mod Game
-pub mod Arena
+pub mod Published
 pub mod Accepted
+pub mod Tidy
+pub mod Ranged

@@ -1,5 +1,5 @@
 pub mod Stamp
-pub mod Forced
+pub mod Seen
 pub mod Listing
 pub mod Hits
 pub mod Queue
@@ -8,4 +8,4 @@ pub mod Ripening
 pub mod Walking
 pub mod Passing
 pub mod Says
-pub mod Parts
+pub mod Members

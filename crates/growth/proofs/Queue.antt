@@ -14,7 +14,7 @@ use Rattle.arena.specs.Sets.{count}
 use Rattle.arena.proofs.Sets.{lt-suc-cases, count-le}
 use Rattle.arena.proofs.Loops.{some-more, some-cong}
 use Rattle.growth.specs.Stamp.{passAt, isIn, passNo}
-use Rattle.chains.specs.Lent.{lastBelow, Linked}
+use Rattle.chains.specs.Lent.{cellAt, lastBelow, Linked}
 use Rattle.growth.specs.Queue.{done, Listed, Alike, Joined}
 use Rattle.chains.proofs.Counts.{count-add, holds-store, holds-cong}
 use Rattle.chains.proofs.Chains.{last-le, last-is, onward, onward-first, onward-old, onward-new, onward-same, onward-last}
@@ -110,8 +110,8 @@ module _ {n : ℕ} {block last before : List ℕ} (linked : Linked n n block las
           more = omega arith;
           alike = λ i _. refl;
         };
-        low = rw e (last-le block n b);
-        stands = λ k z. last-is block n b k (sym e ∙ z);
+        low = rw e (last-le (cellAt block) n b);
+        stands = λ k z. last-is (cellAt block) n b k (sym e ∙ z);
       }
 
   module _ {row₀ queue₀ : List ℕ} {tail₀ : ℕ} {row queue : List ℕ} {tail at : ℕ} (joining : Joining n block b number row₀ queue₀ tail₀ row queue tail at) where
@@ -129,7 +129,7 @@ module _ {n : ℕ} {block last before : List ℕ} (linked : Linked n n block las
       next = linked .befores .cell (at - 1) member ∙ ap (λ (x : ℕ). lastBelow block (at - 1) x) is
 
       pub join-less : getD before (at - 1) 0 < at
-      join-less = rw next (omega (arith, last-le block (at - 1) b))
+      join-less = rw next (omega (arith, last-le (cellAt block) (at - 1) b))
 
       -- the member at hand has the pass that it had
       own : getD row (at - 1) 0 ≡ passAt row₀ (at - 1)
@@ -146,7 +146,7 @@ module _ {n : ℕ} {block last before : List ℕ} (linked : Linked n n block las
 
       goes-on : {row' queue' : List ℕ} {tail' : ℕ} → Joined n (onward block b (getD before (at - 1) 0)) number row₀ queue₀ tail₀ row' queue' tail' → Next row' queue' tail'
       unfolding Next
-      goes-on joined = record { joined = joined; low = omega (arith, join-less, joining .low); stands = λ k z. last-is block (at - 1) b k (sym next ∙ z) }
+      goes-on joined = record { joined = joined; low = omega (arith, join-less, joining .low); stands = λ k z. last-is (cellAt block) (at - 1) b k (sym next ∙ z) }
 
       -- a member that is in already
       pub join-skip : {row' queue' : List ℕ} {tail' : ℕ} → row' ≡ row → queue' ≡ queue → tail' ≡ tail → (getD row (at - 1) 0 ≡ 0 → ⊥) → Joining n block b number row₀ queue₀ tail₀ row' queue' tail' (getD before (at - 1) 0)
@@ -206,7 +206,7 @@ module _ {n : ℕ} (few : n ≤ 512) {block last before : List ℕ} (linked : Li
   chain-start l = record {
     few = omega arith;
     long = omega (arith, linked .lasts .long);
-    low = omega (arith, linked .lasts .cell b l, last-le block n b);
+    low = omega (arith, linked .lasts .cell b l, last-le (cellAt block) n b);
   }
 
   module _ {number : ℕ} {row₀ queue₀ : List ℕ} {tail₀ : ℕ} {row queue : List ℕ} {tail at : ℕ} (joining : Joining n block b number row₀ queue₀ tail₀ row queue tail at) (some-left : 0 < at) where

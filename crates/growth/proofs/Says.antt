@@ -7,20 +7,20 @@ use native.Mathlib.Omega.{arith}
 use lib.ListN.{getD}
 use lib.Dec.{eqb, leb, le→leb, eqb-refl}
 use Rattle.arena.specs.Sets.{Set, imp, some, every, count}
-use Rattle.arena.specs.Game.{forced}
+use Rattle.arena.specs.Arena.{forced}
 use Rattle.arena.proofs.Tests.{T-ext, and-intro, and-r, imp-elim}
 use Rattle.arena.proofs.Sets.{some-intro, every-elim, count-pos, meets-in, meets-out, within-in, within-out}
 use Rattle.arena.proofs.Passes.{Mono, mono-ext}
 use Rattle.arena.proofs.Forced.{forced-mono}
 use Rattle.game.specs.Game.{turnAt, blockAt, fromAt, toAt}
-use Rattle.game.specs.Arena.{sideOf, arenaOf}
+use Rattle.game.specs.Published.{sideOf, arenaOf}
 use Rattle.game.specs.declared.Game.{Game}
 use Rattle.blocks.specs.Blocks.{inside, meets}
 use Rattle.growth.specs.Stamp.{entered, stampFrom, joining}
 use Rattle.chains.specs.Lent.{Holds, Keys, manyOf, needOf, Gathered, Lent}
 use Rattle.growth.specs.Net.{Net, net, Sound, tally, hitsOf, ripe, joined, passOf}
 use Rattle.chains.proofs.Counts.{count-cong, count-some, count-all, holds-cong}
-use Rattle.growth.proofs.Forced.{seen, seen-all}
+use Rattle.growth.proofs.Seen.{seen, seen-all}
 use Rattle.growth.proofs.Moving.{met}
 
 -- by a larger set no fewer blocks join
@@ -38,13 +38,13 @@ joining-mono g side false X Y h s _ x =
 module _ {g : Game} {side n m : ℕ} {from to need block : List ℕ} (p : Lent g side n m from to need block) where
   -- where the numbers lie
   pub froms : Keys n m from
-  froms = record { long = p .from-is .long; below = λ k l. rw (p .from-is .cell k l, ← p .states-is) (p .accepted .from-state k (rw (p .moves-is) l)) }
+  froms = record { long = p .from-is .long; below = λ k l. rw (p .from-is .cell k l, ← p .states-is) (p .ranged .from-state k (rw (p .moves-is) l)) }
 
   pub tos : Keys n m to
-  tos = record { long = p .to-is .long; below = λ k l. rw (p .to-is .cell k l, ← p .states-is) (p .accepted .to-state k (rw (p .moves-is) l)) }
+  tos = record { long = p .to-is .long; below = λ k l. rw (p .to-is .cell k l, ← p .states-is) (p .ranged .to-state k (rw (p .moves-is) l)) }
 
   pub blocks : Keys n n block
-  blocks = record { long = p .block-is .long; below = λ s l. rw (p .block-is .cell s l) (omega (arith, p .accepted .block-below s (rw (p .states-is) l))) }
+  blocks = record { long = p .block-is .long; below = λ s l. rw (p .block-is .cell s l, ← p .states-is) (p .ranged .block-state s (rw (p .states-is) l)) }
 
   module _ {last before size : List ℕ} (gathered : Gathered n block last before size) (whole : Bool) where
     size-is : (s : ℕ) → s < n → getD size (getD block s 0) 0 ≡ manyOf n block (getD block s 0)
@@ -53,8 +53,8 @@ module _ {g : Game} {side n m : ℕ} {from to need block : List ℕ} (p : Lent g
     pub sound : Sound (net n m whole from to need block size)
     unfolding manyOf
     sound = record {
-      few-states = rw (← p .states-is) (p .accepted .few-states);
-      few-moves = rw (← p .moves-is) (p .accepted .few-moves);
+      few-states = rw (← p .states-is) (p .ranged .few-states);
+      few-moves = rw (← p .moves-is) (p .ranged .few-moves);
       froms = froms;
       tos = tos;
       blocks = blocks;
@@ -79,7 +79,7 @@ module _ {g : Game} {side : ℕ} {from to need block : List ℕ} (p : Lent g sid
         count-cong (g .moves) (λ k. eqb (getD from k 0) s) (λ k. eqb (fromAt g k) s) (λ k i. ap (λ (x : ℕ). eqb x s) (p .from-is .cell k i)),
         count-cong (g .moves) (λ k. eqb (getD from k 0) s && X (getD to k 0)) (λ k. eqb (fromAt g k) s && X (toAt g k)) (λ k i. rw (p .from-is .cell k i, p .to-is .cell k i) refl),
       )
-      (go (eqb (turnAt g s) side)) ∙ seen-all g (p .accepted) side (p .known) X s l
+      (go (eqb (turnAt g s) side)) ∙ seen-all g (p .ranged) side (p .known) X s l
     where
       go : (own : Bool) → leb (cond own 1 (count (g .moves) (λ k. eqb (fromAt g k) s))) (count (g .moves) (λ k. eqb (fromAt g k) s && X (toAt g k)))
           ≡ cond own (some (g .moves) (λ k. eqb (fromAt g k) s && X (toAt g k))) (every (g .moves) (λ k. imp (eqb (fromAt g k) s) (X (toAt g k))))

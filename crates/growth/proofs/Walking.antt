@@ -15,7 +15,7 @@ use Rattle.arena.proofs.Tests.{and-intro, and-l, and-r, or-l}
 use Rattle.arena.proofs.Sets.{count-le, count-mono}
 use Rattle.arena.proofs.Loops.{some-more, some-cong}
 use Rattle.growth.specs.Stamp.{isIn}
-use Rattle.chains.specs.Lent.{lastBelow, Linked}
+use Rattle.chains.specs.Lent.{cellAt, lastBelow, Linked}
 use Rattle.growth.specs.Net.{Net, goal, Sound, tally, hitsOf, hits}
 use Rattle.growth.specs.Queue.{done, into, Alike, Joined, Work, Handled, partly, Walking}
 use Rattle.chains.proofs.Counts.{count-cong, count-add}
@@ -137,7 +137,7 @@ module _ {w : Net} (sound : Sound w) {last before : List ℕ} (linked : Linked (
         state-fits = omega (arith, sound .few-states);
         state-offset = omega (arith, sound .few-states);
         in-last = omega (arith, linked .lasts .long);
-        last-fits = omega (arith, linked .lasts .cell (getD queue q 0) state, last-le (w .to) (w .moves) (getD queue q 0), sound .few-moves);
+        last-fits = omega (arith, linked .lasts .cell (getD queue q 0) state, last-le (cellAt (w .to)) (w .moves) (getD queue q 0), sound .few-moves);
       }
 
   -- it begins at the last move into the state
@@ -147,8 +147,8 @@ module _ {w : Net} (sound : Sound w) {last before : List ℕ} (linked : Linked (
       let e : getD last (getD queue q 0) 0 ≡ lastBelow (w .to) (w .moves) (getD queue q 0) = linked .lasts .cell (getD queue q 0) (work .listed .states q l) in
       record {
         work = rw (e, ← walk-first (w .moves) (w .from) (w .to) q queue (getD queue q 0)) work;
-        low = rw e (last-le (w .to) (w .moves) (getD queue q 0));
-        stands = λ k z. last-is (w .to) (w .moves) (getD queue q 0) k (sym e ∙ z);
+        low = rw e (last-le (cellAt (w .to)) (w .moves) (getD queue q 0));
+        stands = λ k z. last-is (cellAt (w .to)) (w .moves) (getD queue q 0) k (sym e ∙ z);
         fresh = work .listed .fresh q l;
         more = omega arith;
         alike = λ i _. refl;
@@ -169,7 +169,7 @@ module _ {w : Net} (sound : Sound w) {last before : List ℕ} (linked : Linked (
       next = linked .befores .cell (at - 1) move ∙ ap (λ (x : ℕ). lastBelow (w .to) (at - 1) x) names
 
       less : getD before (at - 1) 0 < at
-      less = rw next (omega (arith, last-le (w .to) (at - 1) c))
+      less = rw next (omega (arith, last-le (cellAt (w .to)) (at - 1) c))
 
       pub turn : Turn w before have hit at
       turn =
@@ -216,7 +216,7 @@ module _ {w : Net} (sound : Sound w) {last before : List ℕ} (linked : Linked (
           record {
             work = rw (next, ← grown, ← here) work;
             low = omega (arith, less, walking .low);
-            stands = λ k z. last-is (w .to) (at - 1) c k (sym next ∙ z);
+            stands = λ k z. last-is (cellAt (w .to)) (at - 1) c k (sym next ∙ z);
             fresh = walking .fresh;
             more = more;
             alike = alike;

@@ -6,9 +6,9 @@ use lib.ListN.{getD}
 use lib.Dec.{eqb}
 use Rattle.arena.specs.Sets.{Set, bit}
 use Rattle.game.specs.Game.{blockAt}
-use Rattle.game.specs.Arena.{sideOf, arenaOf}
+use Rattle.game.specs.Published.{sideOf, arenaOf}
 use Rattle.game.specs.declared.Game.{Game}
-use Rattle.blocks.specs.Hunt.{insideStep, meetsStep}
+use Rattle.blocks.specs.Round.{insideStep, meetsStep}
 
 -- the pass that stands at each place of a row
 abbrev pub passAt : List ℕ → ℕ → ℕ
@@ -20,7 +20,7 @@ entered f s = not (eqb (f s) 0)
 
 -- the set that a row of passes says
 abbrev pub isIn : List ℕ → Set
-isIn row s = not (eqb (getD row s 0) 0)
+isIn row s = entered (passAt row) s
 
 -- a state that has a pass keeps it, and one that joins now gets this number
 unfoldable pub passNo : ℕ → Bool → ℕ → ℕ

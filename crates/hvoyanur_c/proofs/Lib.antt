@@ -1,2 +1,2 @@
 pub mod Short
-pub mod Parts
+pub mod Unpacked

@@ -2,9 +2,9 @@
 use exchange::Exchanged;
 use solver::Verdict;
 ghost use mathlib.Core.Path.{_≡_};
-ghost use Rattle.solver.specs.Solve.{solveVerdict, solveMarks, solveBlocks, solveMoves};
-ghost use Rattle.exchange.specs.Exchange.{exchangeAnswer, exchangeOutput};
-ghost use Rattle.hvoyanur_c.specs.Pack.{joined, packed, packedExchange};
+ghost use Rattle.solver.specs.Solve.{solved};
+ghost use Rattle.exchange.specs.Exchange.{exchanged};
+ghost use Rattle.hvoyanur_c.specs.Pack.{joined, packed, packedOutcome, packedWriting};
 
 // Stands where no start is named.
 const NO_START: u16 = 65535;
@@ -38,10 +38,7 @@ pub extern "C" fn hvoyanur_solve(
     moves: &mut [u16],
     allowance: u16,
 ) -> u64
-    ensures value { λ r. ⌜ r ≡ packed (solveVerdict (now (file .entry)) allowance (now (marks .entry)) (now (blocks .entry)) (now (moves .entry))) ⌝ }
-    ensures marks { λ _. ⌜ now (marks .exit) ≡ solveMarks (now (file .entry)) allowance (now (marks .entry)) (now (blocks .entry)) (now (moves .entry)) ⌝ }
-    ensures blocks { λ _. ⌜ now (blocks .exit) ≡ solveBlocks (now (file .entry)) allowance (now (marks .entry)) (now (blocks .entry)) (now (moves .entry)) ⌝ }
-    ensures moves { λ _. ⌜ now (moves .exit) ≡ solveMoves (now (file .entry)) allowance (now (marks .entry)) (now (blocks .entry)) (now (moves .entry)) ⌝ }
+    ensures { λ r. ⌜ record { value = r; rows = record { marks = now (marks .exit); blocks = now (blocks .exit); moves = now (moves .exit) } } ≡ packedOutcome (solved (now (file .entry)) allowance (record { marks = now (marks .entry); blocks = now (blocks .entry); moves = now (moves .entry) })) ⌝ }
 {
     let verdict = solver::solve(file, allowance, marks, blocks, moves);
     pack(verdict)
@@ -51,8 +48,7 @@ pub extern "C" fn hvoyanur_solve(
 // refusal's number.
 #[no_mangle]
 pub extern "C" fn hvoyanur_exchange(file: &[u8], out: &mut [u8]) -> u64
-    ensures value { λ r. ⌜ r ≡ packedExchange (exchangeAnswer (now (file .entry)) (now (out .entry))) ⌝ }
-    ensures output { λ _. ⌜ now (out .exit) ≡ exchangeOutput (now (file .entry)) (now (out .entry)) ⌝ }
+    ensures { λ r. ⌜ record { value = r; output = now (out .exit) } ≡ packedWriting (exchanged (now (file .entry)) (now (out .entry))) ⌝ }
 {
     let answer = exchange::exchange(file, out);
     match answer {

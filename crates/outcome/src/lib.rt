@@ -1,12 +1,13 @@
 // How a run comes out: its splits, the blocks of its last round, and the rows of that round.
 use game::Game;
-use play::play_out;
+use play::last_round;
+use play::play_rounds;
 use rows::sets;
 ghost use Prim.Native.Nat.{_≤_};
 ghost use lib.ListN.{length};
 ghost use Rattle.game.specs.declared.Game.{Game};
-ghost use Rattle.runs.specs.Work.{upperStates};
-ghost use Rattle.rows.specs.Rows.{Present, Saying, Lowered, Numbered, Finishing, Final};
+ghost use Rattle.runs.specs.Hunting.{upperStates};
+ghost use Rattle.rows.specs.RoundRows.{Present, Saying, Lowered, Numbered, Finishing, Final};
 
 // How a run came out: the splits, and the rows of its last round: the pass in which each state entered what the hunting
 // side surely brings about, and what it may.
@@ -181,12 +182,13 @@ pub fn run_rounds(
         &mut lower,
         &mut queue,
     );
-    let outcome = play_out(
+    let allowed = allowance as usize;
+    let stop = play_rounds(
         n,
         m,
         objective,
         side,
-        allowance as usize,
+        allowed,
         tail,
         turn,
         starts,
@@ -208,11 +210,30 @@ pub fn run_rounds(
         &mut parents,
         &mut names,
     );
+    let splits = last_round(
+        n,
+        m,
+        objective,
+        allowed,
+        stop.clear,
+        stop.made,
+        stop.lost,
+        starts,
+        from,
+        to,
+        last,
+        before,
+        need,
+        prey,
+        &parents,
+        &names,
+        block,
+    );
     let upper = last_rows(
         n,
         m,
-        outcome.made,
-        outcome.tail,
+        stop.made,
+        stop.tail,
         from,
         to,
         last,
@@ -229,7 +250,7 @@ pub fn run_rounds(
         &mut queue,
     );
     Ran {
-        splits: outcome.splits as u16,
+        splits: splits as u16,
         lower,
         upper,
     }

@@ -1,7 +1,7 @@
 -- The loop of rounds: how it begins, goes on and stops.
 use Prim.Native.Nat.{ℕ, suc, _+_, _-_, _*_, _≤_, _<_}
 use mathlib.Core.Path.{_≡_, refl, sym, ap, subst, _∙_}
-use mathlib.Core.Bool.{Bool, true, false, not, _||_, Bool·beq, true≢false}
+use mathlib.Core.Bool.{Bool, true, false, not, _||_, true≢false}
 use mathlib.Core.List.{List}
 use native.Mathlib.Decide.{ℕ-discrete}
 use native.Mathlib.Numerals.{add-one}
@@ -9,40 +9,39 @@ use native.Mathlib.Omega.{arith}
 use mir.Syntax.{w16, w64}
 use mir.Val.{Fits}
 use lib.ListN.{length, getD, set}
-use lib.Dec.{T, eqb, eqb→eq}
+use lib.Dec.{eqb, eqb→eq}
 use borrow.Author.Tests.{eq-eqb}
-use Rattle.arena.specs.Sets.{Set, least}
-use Rattle.arena.proofs.Tests.{holds, and-l, and-r}
-use Rattle.arena.proofs.Sets.{some-intro, count-pos, least-hit}
+use Rattle.arena.specs.Sets.{least}
+use Rattle.arena.proofs.Tests.{holds}
+use Rattle.arena.proofs.Sets.{some-intro, count-pos}
 use Rattle.game.specs.Limits.{maxStates}
 use Rattle.game.specs.Game.{marked, blockAt}
-use Rattle.game.specs.Arena.{goalOf}
-use Rattle.game.specs.Accepted.{Accepted}
+use Rattle.game.specs.Published.{goalOf}
+use Rattle.game.specs.Accepted.{AcceptedGame}
 use Rattle.game.specs.declared.Game.{Game}
 use Rattle.blocks.specs.Blocks.{blockCount, isBlock}
 use Rattle.blocks.proofs.Split.{blockCount-le}
 use Rattle.growth.specs.Stamp.{isIn}
 use Rattle.chains.specs.Lent.{Holds}
 use Rattle.rounds.specs.Border.{bordering, borderAnswer}
-use Rattle.rounds.specs.Split.{enough, apart as rowApart}
+use Rattle.rounds.specs.Renamed.{enough, rowApart}
 use Rattle.rounds.specs.declared.Border.{Border}
 use Rattle.rounds.specs.declared.Border.the-variants.{At, Nothing}
-use Rattle.runs.specs.Run.{knownStates, borderOf, splitGame, round}
-use Rattle.runs.specs.Work.{upperStates, hasWay, caught, catchable}
+use Rattle.runs.specs.Run.{intoKnownStates, lowestFirst, splitGame, round}
+use Rattle.runs.specs.Hunting.{upperStates, hasWay, caught, catchable}
 use Rattle.runs.specs.First.{CatchableBefore}
 use Rattle.play.specs.Found.{nothingFound, foundBlock}
-use Rattle.rows.specs.Rows.{Present, Saying, Lowered, Underway, Next, Begun, Played, Stopped}
-use Rattle.runs.proofs.Rounds.{split-counts}
+use Rattle.rows.specs.RoundRows.{Present, Saying, Lowered, Underway, Next, Begun, Played, Stopped}
+use Rattle.runs.proofs.Rounds.{lowest-found, split-one-more}
 use Rattle.runs.proofs.Settled.{round-more, word-open}
-use Rattle.blocks.proofs.Refine.{apart}
+use Rattle.blocks.specs.Parts.{apart}
 use Rattle.runs.proofs.Undone.{round-states, log-none, log-split}
 use Rattle.runs.proofs.First.{uncaught-none, uncaught-more, catchable-none, caught-run, open-run}
 use Rattle.rows.proofs.Present.{few-states, present-split, way-is}
 use Rattle.rows.proofs.Bordering.{nothing-next, next-found, new-name}
-use Rattle.rows.proofs.Splitting.{both-parts}
 
 -- an accepted game has a block
-some-block : (g : Game) → Accepted g → 1 ≤ blockCount (g .states) (blockAt g)
+some-block : (g : Game) → AcceptedGame g → 1 ≤ blockCount (g .states) (blockAt g)
 unfolding blockCount
 some-block g ok =
     let lowest : blockAt g 0 ≡ 0 = omega (arith, ok .block-below 0 (ok .some-states)) in
@@ -63,12 +62,12 @@ play-first {n = n} parents names v = record {
   fewer = subst (λ (k : ℕ). 0 < blockCount k (blockAt (v .game))) (v .present .states-is) (some-block (v .game) (v .present .accepted));
 }
 
-module _ {g : Game} (ok : Accepted g) {side n m objective : ℕ} {turn starts from to last before need first prey block last' before' size have hit lower queue parents names : List ℕ}
+module _ {g : Game} (ok : AcceptedGame g) {side n m objective : ℕ} {turn starts from to last before need first prey block last' before' size have hit lower queue parents names : List ℕ}
     {made clear tail : ℕ} (y : Played g side n m objective turn starts from to last before need first prey block last' before' size have hit lower queue parents names made clear tail) where
   -- the round, for the functions that work on it
   abbrev pub underway : Underway n m from to last before need block last' before' size have hit lower queue tail
   underway = record {
-    game = round made g;
+    game = round lowestFirst made g;
     side = side;
     objective = objective;
     turn = turn;
@@ -81,7 +80,7 @@ module _ {g : Game} (ok : Accepted g) {side n m objective : ℕ} {turn starts fr
 
   -- there are fewer splits than states
   pub few-splits : made < n
-  few-splits = omega (arith, y .fewer, blockCount-le n (blockAt (round made g)))
+  few-splits = omega (arith, y .fewer, blockCount-le n (blockAt (round lowestFirst made g)))
 
   pub few-made : made < 512
   few-made = omega (arith, few-splits, few-states (y .present))
@@ -117,22 +116,22 @@ module _ {g : Game} (ok : Accepted g) {side n m objective : ℕ} {turn starts fr
 
   module _ {r : Bool} (way : r ≡ hasWay (goalOf objective) n (λ s. marked 1 (getD starts s 0)) (isIn lower)) (not-yet : r ≡ false) where
     -- it does not
-    pub uncaught-now : caught (round made g) ≡ false
+    pub uncaught-now : caught (round lowestFirst made g) ≡ false
     uncaught-now = sym (way-is (y .present) (y .lowered .lower-in) way) ∙ not-yet
 
     -- whether it may, by the row of what it may bring about
-    pub open-now : {up : List ℕ} {open' : Bool} → Saying n up (upperStates (round made g)) → open' ≡ hasWay (goalOf objective) n (λ s. marked 1 (getD starts s 0)) (isIn up) → open' ≡ catchable (round made g)
+    pub open-now : {up : List ℕ} {open' : Bool} → Saying n up (upperStates (round lowestFirst made g)) → open' ≡ hasWay (goalOf objective) n (λ s. marked 1 (getD starts s 0)) (isIn up) → open' ≡ catchable (round lowestFirst made g)
     open-now says e = way-is (y .present) says e
 
-    module _ {found : Border} (answer : found ≡ borderAnswer n (bordering (round made g) side lower)) (allowance : ℕ) {over : Bool} (over-is : over ≡ (nothingFound found || eqb made allowance)) where
+    module _ {found : Border} (answer : found ≡ borderAnswer n (bordering (round lowestFirst made g) side lower)) (allowance : ℕ) {over : Bool} (over-is : over ≡ (nothingFound found || eqb made allowance)) where
       -- no further split, or it may not: the run ends here, or before
-      pub stop-last : {lower₀ up : List ℕ} {open' last-one : Bool} → made ≤ allowance → (made ≡ 0 → lower ≡ lower₀) → Saying n up (upperStates (round made g))
+      pub stop-last : {lower₀ up : List ℕ} {open' last-one : Bool} → made ≤ allowance → (made ≡ 0 → lower ≡ lower₀) → Saying n up (upperStates (round lowestFirst made g))
           → open' ≡ hasWay (goalOf objective) n (λ s. marked 1 (getD starts s 0)) (isIn up) → last-one ≡ (over || not open') → last-one ≡ true → Stopped g allowance lower₀ lower (not open') made clear
       stop-last {lower₀} {up} {open'} within kept says e last-is is = go open' refl
         where
-          ends : (x : Border) → found ≡ x → (nothingFound x || eqb made allowance) ≡ true → catchable (round made g) ≡ true → made ≡ allowance
+          ends : (x : Border) → found ≡ x → (nothingFound x || eqb made allowance) ≡ true → catchable (round lowestFirst made g) ≡ true → made ≡ allowance
           ends (At b) z h c = eqb→eq made allowance (holds _ h)
-          ends Nothing z h c = absurd (nothing-next (y .present) (y .lowered) found answer z (word-open (round made g) uncaught-now c))
+          ends Nothing z h c = absurd (nothing-next (y .present) (y .lowered) found answer z (word-open (round lowestFirst made g) uncaught-now c))
 
           go : (x : Bool) → open' ≡ x → Stopped g allowance lower₀ lower (not open') made clear
           go true z = record {
@@ -174,10 +173,10 @@ module _ {g : Game} (ok : Accepted g) {side n m objective : ℕ} {turn starts fr
         pub allowed-next : made ≤ allowance → made + 1 ≤ allowance
         allowed-next within = omega (arith, allowed-more within)
 
-        pub next-here : Next (round made g) n block hit lower (foundBlock found)
+        pub next-here : Next (round lowestFirst made g) n block (foundBlock found)
         next-here = go found refl unfinished
           where
-            go : (x : Border) → found ≡ x → (nothingFound x || eqb made allowance) ≡ false → Next (round made g) n block hit lower (foundBlock x)
+            go : (x : Border) → found ≡ x → (nothingFound x || eqb made allowance) ≡ false → Next (round lowestFirst made g) n block (foundBlock x)
             go (At b) z h = next-found (y .present) (y .lowered) found b answer z
             go Nothing z h = absurd (true≢false h)
 
@@ -186,54 +185,19 @@ module _ {g : Game} (ok : Accepted g) {side n m objective : ℕ} {turn starts fr
 
   -- ## The next round
 
-  module _ {b : ℕ} (next : Next (round made g) n block hit lower b) {c : ℕ} (new : c ≡ least n (rowApart block b (enough need have))) where
-    -- the state that names the new part, and state b, are on two sides of the known set
-    one-more : blockCount n (blockAt (splitGame (round made g))) ≡ suc (blockCount n (blockAt (round made g)))
+  module _ {b : ℕ} (next : Next (round lowestFirst made g) n block b) {c : ℕ} (new : c ≡ least n (rowApart block b (enough need have))) where
+    -- the split makes one block more
+    one-more : blockCount n (blockAt (splitGame lowestFirst (round lowestFirst made g))) ≡ suc (blockCount n (blockAt (round lowestFirst made g)))
     unfolding splitGame
-    one-more = subst (λ (k : ℕ). blockCount k (blockAt (splitGame h)) ≡ suc (blockCount k (blockAt h))) (y .present .states-is) (go (K b) refl)
-      where
-        h : Game
-        h = round made g
-
-        K : Set
-        K = knownStates h
-
-        small : c < h .states
-        small = rw (y .present .states-is) (rw new (both-parts (y .present) (y .lowered) next))
-
-        leaves : T (apart (blockAt h) b K c)
-        leaves = let e = new-name (y .present) (y .lowered) (next .state) new in
-            subst (λ (x : ℕ). T (apart (blockAt h) b K x)) (sym e) (least-hit (h .states) (apart (blockAt h) b K) (subst (λ (x : ℕ). x < h .states) e small))
-
-        in-block : blockAt h c ≡ borderOf h
-        in-block = eqb→eq (blockAt h c) b (and-l (eqb (blockAt h c) b) (not (Bool·beq (K c) (K b))) leaves) ∙ next .here
-
-        own : blockAt h b ≡ borderOf h
-        own = sym (y .present .block-is .cell b (next .state)) ∙ next .name ∙ next .here
-
-        there : b < h .states
-        there = rw (y .present .states-is) (next .state)
-
-        unlike : T (not (Bool·beq (K c) (K b)))
-        unlike = and-r (eqb (blockAt h c) b) (not (Bool·beq (K c) (K b))) leaves
-
-        side-true : (x y : Bool) → T (not (Bool·beq x y)) → y ≡ true → T (not x)
-        side-true true true d e = d
-        side-true false true d e = tt
-        side-true x false d e = absurd (true≢false (sym e))
-
-        side-false : (x y : Bool) → T (not (Bool·beq x y)) → y ≡ false → T x
-        side-false true false d e = tt
-        side-false false false d e = d
-        side-false x true d e = absurd (true≢false e)
-
-        go : (x : Bool) → K b ≡ x → blockCount (h .states) (blockAt (splitGame h)) ≡ suc (blockCount (h .states) (blockAt h))
-        go true e = split-counts h (y .present .accepted) (b, there, own, holds (K b) e) (c, small, in-block, side-true (K c) (K b) unlike e)
-        go false e = split-counts h (y .present .accepted) (c, small, in-block, side-false (K c) (K b) unlike e) (b, there, own, rw e tt)
+    one-more =
+        let h = round lowestFirst made g in
+        subst (λ (k : ℕ). blockCount k (blockAt (splitGame lowestFirst h)) ≡ suc (blockCount k (blockAt h))) (y .present .states-is)
+        (split-one-more lowestFirst h (y .present .accepted)
+        (lowest-found h (subst (λ (c : ℕ). c < h .states) (next .here) (rw (y .present .states-is) (next .state)))))
 
     pub play-next : (clear' : ℕ) {finer last₁ before₁ size₁ have₁ hit₁ lower₁ queue₁ : List ℕ} {tail₁ : ℕ}
-        → caught (round made g) ≡ false → CatchableBefore g clear' → clear' ≤ made + 1 → made < length parents → made < length names
-        → Holds n finer (blockAt (splitGame (round made g))) → Lowered (splitGame (round made g)) n m from to need finer last₁ before₁ size₁ have₁ hit₁ lower₁ queue₁ tail₁
+        → caught (round lowestFirst made g) ≡ false → CatchableBefore g clear' → clear' ≤ made + 1 → made < length parents → made < length names
+        → Holds n finer (blockAt (splitGame lowestFirst (round lowestFirst made g))) → Lowered (splitGame lowestFirst (round lowestFirst made g)) n m from to need finer last₁ before₁ size₁ have₁ hit₁ lower₁ queue₁ tail₁
         → Played g side n m objective turn starts from to last before need first prey finer last₁ before₁ size₁ have₁ hit₁ lower₁ queue₁ (set parents made b) (set names made c) (made + 1) clear' tail₁
     play-next clear' {finer} {last₁} {before₁} {size₁} {have₁} {hit₁} {lower₁} {queue₁} {tail₁} uncaught hope low long-parents long-names blocks lowered = record {
       present = subst (λ (h : Game). Present h side n m objective turn starts from to last before need first prey finer) here (present-split (y .present) blocks);
@@ -245,14 +209,14 @@ module _ {g : Game} (ok : Accepted g) {side n m objective : ℕ} {turn starts fr
       fewer = subst (λ (h : Game). made + 1 < blockCount n (blockAt h)) here (omega (arith, one-more, y .fewer));
     }
       where
-        here : splitGame (round made g) ≡ round (made + 1) g
-        here = sym (round-more made g) ∙ ap (λ (k : ℕ). round k g) (sym (add-one made))
+        here : splitGame lowestFirst (round lowestFirst made g) ≡ round lowestFirst (made + 1) g
+        here = sym (round-more lowestFirst made g) ∙ ap (λ (k : ℕ). round lowestFirst k g) (sym (add-one made))
 
         states-here : g .states ≡ n
-        states-here = sym (round-states made g) ∙ y .present .states-is
+        states-here = sym (round-states lowestFirst made g) ∙ y .present .states-is
 
-        name-here : c ≡ least n (apart (blockAt (round made g)) b (knownStates (round made g)))
-        name-here = new-name (y .present) (y .lowered) (next .state) new ∙ ap (λ (k : ℕ). least k (apart (blockAt (round made g)) b (knownStates (round made g)))) (y .present .states-is)
+        name-here : c ≡ least n (apart (blockAt (round lowestFirst made g)) b (intoKnownStates (round lowestFirst made g)))
+        name-here = new-name (y .present) (y .lowered) (next .state) new ∙ ap (λ (k : ℕ). least k (apart (blockAt (round lowestFirst made g)) b (intoKnownStates (round lowestFirst made g)))) (y .present .states-is)
 
 -- a split was made
 pub some-made : (k : ℕ) → k + 1 ≡ 0 → ⊥

@@ -13,8 +13,8 @@ ghost use lib.Dec.{eqb};
 ghost use Rattle.game.specs.Limits.{maxStates};
 ghost use Rattle.game.specs.Game.{blockAt};
 ghost use Rattle.chains.specs.Lent.{Holds};
-ghost use Rattle.runs.specs.Run.{Run, run, round};
-ghost use Rattle.rows.specs.Rows.{Begun, Played, Stopped, Ending, PlayedOut};
+ghost use Rattle.runs.specs.Run.{lowestFirst, run, round};
+ghost use Rattle.rows.specs.RoundRows.{Begun, Played, Stopped, Ending};
 ghost use Rattle.play.specs.Found.{nothingFound, foundBlock};
 
 // Where the rounds stopped: after how many splits, whether that round is lost for the hunting side, how many of the first
@@ -186,7 +186,7 @@ pub fn play_rounds(
 
 // The splits of a run that has stopped, and the blocks of its last round: an earlier one, if that was lost already for the
 // hunting side.
-fn last_round(
+pub fn last_round(
     n: usize,
     m: usize,
     objective: u16,
@@ -206,7 +206,7 @@ fn last_round(
     block: &mut [u16],
 ) -> usize
     requires { ⌜ Ending n m objective allowance clear made lost (now starts) (now from) (now to) (now last) (now before) (now need) (now prey) (now parents) (now names) (now block) ⌝ }
-    ensures { λ r. ⌜ ((e : Ending n m objective allowance clear made lost (now (starts .entry)) (now (from .entry)) (now (to .entry)) (now (last .entry)) (now (before .entry)) (now (need .entry)) (now (prey .entry)) (now (parents .entry)) (now (names .entry)) (now (block .entry))) → (run allowance (e .game) ≡ record { splits = r; last = round r (e .game) }) × Holds n (now (block .exit)) (blockAt (round r (e .game)))) × (r ≤ made) × (made ≡ 0 → now (block .exit) ≡ now (block .entry)) ⌝ }
+    ensures { λ r. ⌜ ((e : Ending n m objective allowance clear made lost (now (starts .entry)) (now (from .entry)) (now (to .entry)) (now (last .entry)) (now (before .entry)) (now (need .entry)) (now (prey .entry)) (now (parents .entry)) (now (names .entry)) (now (block .entry))) → (run lowestFirst allowance (e .game) ≡ record { splits = r; last = round lowestFirst r (e .game) }) × Holds n (now (block .exit)) (blockAt (round lowestFirst r (e .game)))) × (r ≤ made) × (made ≡ 0 → now (block .exit) ≡ now (block .entry)) ⌝ }
 {
     if lost {
         return retrace::first_lost(
@@ -228,96 +228,4 @@ fn last_round(
         );
     }
     made
-}
-
-// What is left of a run that is played out: its splits, how many were made on the way, and the end of the queue.
-pub struct Outcome {
-    pub splits: usize,
-    pub made: usize,
-    pub tail: usize,
-}
-
-// Plays the rounds of a run from the first one on, which is worked out.
-pub fn play_out(
-    n: usize,
-    m: usize,
-    objective: u16,
-    side: u8,
-    allowance: usize,
-    tail: usize,
-    turn: &[u8],
-    starts: &[u8],
-    from: &[u16],
-    to: &[u16],
-    last: &[u16],
-    before: &[u16],
-    need: &[u16],
-    first: &[u16],
-    prey: &[u16],
-    block: &mut [u16],
-    last_member: &mut [u16],
-    member_before: &mut [u16],
-    size: &mut [u16],
-    have: &mut [u16],
-    hit: &mut [u16],
-    lower: &mut [u16],
-    queue: &mut [u16],
-    parents: &mut [u16],
-    names: &mut [u16],
-) -> Outcome
-    requires { ⌜ Begun side n m objective (now turn) (now starts) (now from) (now to) (now last) (now before) (now need) (now first) (now prey) (now block) (now «last_member») (now «member_before») (now size) (now have) (now hit) (now lower) (now queue) tail ⌝ }
-    requires { ⌜ (maxStates ≤ length (now parents)) × (maxStates ≤ length (now names)) ⌝ }
-    ensures { λ r. ⌜ ((v : Begun side n m objective (now (turn .entry)) (now (starts .entry)) (now (from .entry)) (now (to .entry)) (now (last .entry)) (now (before .entry)) (now (need .entry)) (now (first .entry)) (now (prey .entry)) (now (block .entry)) (now («last_member» .entry)) (now («member_before» .entry)) (now (size .entry)) (now (have .entry)) (now (hit .entry)) (now (lower .entry)) (now (queue .entry)) tail) → PlayedOut (v .game) n m allowance (now (from .entry)) (now (to .entry)) (now (need .entry)) (now (block .exit)) (now («last_member» .exit)) (now («member_before» .exit)) (now (size .exit)) (now (have .exit)) (now (hit .exit)) (now (lower .entry)) (now (lower .exit)) (now (queue .exit)) (r .splits) (r .made) (r .tail)) ⌝ }
-{
-    let stop = play_rounds(
-        n,
-        m,
-        objective,
-        side,
-        allowance,
-        tail,
-        turn,
-        starts,
-        from,
-        to,
-        last,
-        before,
-        need,
-        first,
-        prey,
-        block,
-        last_member,
-        member_before,
-        size,
-        have,
-        hit,
-        lower,
-        queue,
-        parents,
-        names,
-    );
-    let splits = last_round(
-        n,
-        m,
-        objective,
-        allowance,
-        stop.clear,
-        stop.made,
-        stop.lost,
-        starts,
-        from,
-        to,
-        last,
-        before,
-        need,
-        prey,
-        parents,
-        names,
-        block,
-    );
-    Outcome {
-        splits,
-        made: stop.made,
-        tail: stop.tail,
-    }
 }

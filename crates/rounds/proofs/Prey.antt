@@ -5,7 +5,7 @@ use Prim.Native.Nat.{ℕ}
 use lib.Dec.{eqb}
 use Rattle.arena.specs.Sets.{Set, bit}
 use Rattle.arena.specs.Win.{toReach, toStay}
-use Rattle.game.specs.Arena.{goalOf}
+use Rattle.game.specs.Published.{goalOf}
 use Rattle.blocks.specs.Hunt.{prey}
 
 -- two tests that are the same or not, as the code chooses by them; r is what a call gave for b

@@ -5,12 +5,12 @@ use mathlib.Core.List.{List}
 use Prim.Native.Nat.{ℕ, _<_}
 use lib.Dec.{eqb}
 use Rattle.arena.specs.Sets.{Set}
-use Rattle.arena.specs.Game.{forced}
+use Rattle.arena.specs.Arena.{forced}
 use Rattle.arena.proofs.Loops.{some-cong}
 use Rattle.arena.proofs.Passes.{mono-ext}
 use Rattle.arena.proofs.Forced.{forced-mono}
 use Rattle.game.specs.Game.{blockAt}
-use Rattle.game.specs.Arena.{sideOf, arenaOf}
+use Rattle.game.specs.Published.{sideOf, arenaOf}
 use Rattle.game.specs.declared.Game.{Game}
 use Rattle.blocks.specs.Blocks.{meets, isBlock}
 use Rattle.growth.specs.Stamp.{isIn}

@@ -11,26 +11,26 @@ use lib.ListN.{getD}
 use lib.Dec.{T, eqb}
 use borrow.Author.Tests.{eq-eqb, ne-eqb, eqb-true}
 use Rattle.arena.specs.Sets.{Set, some, bit}
-use Rattle.arena.specs.Game.{forced}
+use Rattle.arena.specs.Arena.{forced}
 use Rattle.arena.proofs.Tests.{is-true, holds, and-l, and-r, not-not}
 use Rattle.arena.proofs.Sets.{lt-suc-cases}
 use Rattle.arena.proofs.Loops.{le-or-lt, some-found, some-done, some-none}
 use Rattle.arena.proofs.Choices.{first-not, second-not, both}
 use Rattle.arena.proofs.Least.{least-found}
 use Rattle.game.specs.Game.{blockNo, blockAt, fromAt}
-use Rattle.game.specs.Arena.{sideOf, arenaOf}
+use Rattle.game.specs.Published.{sideOf, arenaOf}
 use Rattle.game.specs.declared.Game.{Game}
 use Rattle.game.proofs.Rows.{bit-one, bit-not}
+use Rattle.game.proofs.Ranged.{accepted-ranged}
 use Rattle.blocks.specs.Blocks.{meets}
 use Rattle.growth.specs.Stamp.{isIn}
-use Rattle.chains.specs.Lent.{Linked}
+use Rattle.chains.specs.Lent.{cellAt, Linked}
 use Rattle.chains.proofs.Chains.{last-le, last-is, last-none}
-use Rattle.growth.proofs.Forced.{seen, seen-none, seen-more, seen-same, seen-all}
+use Rattle.growth.proofs.Seen.{seen, seen-none, seen-more, seen-same, seen-all}
 use Rattle.rounds.specs.Border.{bordering, borderAnswer}
 use Rattle.rounds.specs.Search.{firstMove, Search}
 use Rattle.rounds.specs.declared.Border.the-variants.{At, Nothing}
-use Rattle.rounds.proofs.Moves.{before-first, between-first}
-use Rattle.rounds.proofs.Moves as moves
+use Rattle.rounds.proofs.FirstMoves.{before-first, between-first}
 
 -- ## The members of a block, along its chain
 
@@ -44,9 +44,9 @@ module _ {n : ℕ} {block last before : List ℕ} (chains : Linked n n block las
   -- before the walk
   pub members-none : b < n → Passed n block b P (getD last b 0)
   members-none l = rw (chains .lasts .cell b l) (record {
-    low = last-le block n b;
-    stands = last-is block n b;
-    passed = λ t low high e. absurd (last-none block n b t low high e);
+    low = last-le (cellAt block) n b;
+    stands = last-is (cellAt block) n b;
+    passed = λ t low high e. absurd (last-none (cellAt block) n b t low high e);
   })
 
   -- one member more
@@ -54,20 +54,20 @@ module _ {n : ℕ} {block last before : List ℕ} (chains : Linked n n block las
   members-more at s w e p =
       let own = w .stands s e in
       rw (chains .befores .cell s (omega (arith, w .low)), own) (record {
-        low = omega (arith, last-le block s b, w .low);
-        stands = last-is block s b;
+        low = omega (arith, last-le (cellAt block) s b, w .low);
+        stands = last-is (cellAt block) s b;
         passed = λ t low high z. ⊎-elim
             (λ (le : at ≤ t). w .passed t le high z)
             (λ (lt : t < at). ⊎-elim
             (λ (same : t ≡ s). rw same p)
-            (λ (lower : t < s). absurd (last-none block s b t low lower z))
+            (λ (lower : t < s). absurd (last-none (cellAt block) s b t low lower z))
             (lt-suc-cases t s (omega arith)))
             (le-or-lt at t);
       })
 
 -- the next member is lower
 pub members-less : {n : ℕ} {block last before : List ℕ} → Linked n n block last before → (s : ℕ) → s < n → getD before s 0 ≤ s
-members-less {n} {block} chains s l = rw (chains .befores .cell s l) (last-le block s (getD block s 0))
+members-less {n} {block} chains s l = rw (chains .befores .cell s l) (last-le (cellAt block) s (getD block s 0))
 
 module _ {g : Game} {side n m : ℕ} {turn first to block last before lower hit : List ℕ} (q : Search g side n m turn first to block last before lower hit) where
   -- ## Where the numbers lie
@@ -78,7 +78,7 @@ module _ {g : Game} {side n m : ℕ} {turn first to block last before lower hit 
     where
       low : (at : ℕ) → firstMove (fromAt g) m at ≤ m
       low zero = zero-le
-      low (suc s) = moves.last-le (fromAt g) m s
+      low (suc s) = last-le (fromAt g) m s
 
   -- and go to states
   pub to-low : (at : ℕ) → at ≤ n → (k : ℕ) → k < getD first at 0 → getD to k 0 < n
@@ -121,8 +121,8 @@ module _ {g : Game} {side n m : ℕ} {turn first to block last before lower hit 
     -- all its moves
     told-all : (k : ℕ) {known : ℕ} → Told k known → getD first at 0 ≤ k → k ≤ m → known ≡ bit (forced (arenaOf g) (sideOf side) (isIn lower) s)
     told-all k z low high = z ∙ ap bit (skip k (g .moves) (omega (arith, q .moves-is))
-        (λ i a b. moves.last-none (fromAt g) (g .moves) s i (omega (arith, ends)) b)
-        ∙ seen-all g (q .accepted) side (q .known) (isIn lower) s (omega (arith, q .states-is)))
+        (λ i a b. last-none (fromAt g) (g .moves) s i (omega (arith, ends)) b)
+        ∙ seen-all g (accepted-ranged (q .accepted)) side (q .known) (isIn lower) s (omega (arith, q .states-is)))
 
     -- it is in the forced-step set, or it is not
     pub told-in : (k : ℕ) {known : ℕ} → Told k known → getD first at 0 ≤ k → k ≤ m → known ≡ 1 → forced (arenaOf g) (sideOf side) (isIn lower) s ≡ true

@@ -3,9 +3,9 @@ use Prim.Native.Nat.{ℕ}
 use mathlib.Core.Bool.{not, _&&_, cond}
 use mathlib.Core.List.{List}
 use Rattle.arena.specs.Sets.{Set, some, least}
-use Rattle.arena.specs.Game.{forced}
+use Rattle.arena.specs.Arena.{forced}
 use Rattle.game.specs.Game.{blockNo, blockAt}
-use Rattle.game.specs.Arena.{sideOf, arenaOf}
+use Rattle.game.specs.Published.{sideOf, arenaOf}
 use Rattle.game.specs.declared.Game.{Game}
 use Rattle.blocks.specs.Blocks.{meets, isBlock}
 use Rattle.growth.specs.Stamp.{isIn}

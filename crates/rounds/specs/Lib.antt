@@ -1,3 +1,3 @@
 pub mod Border
-pub mod Split
+pub mod Renamed
 pub mod Search

@@ -1,33 +1,28 @@
 -- The rows of plain numbers that are lent to the search for a border block, and what they say of a game.
 use Prim.Native.Nat.{ℕ, zero, suc, _<_}
 use mathlib.Core.Path.{_≡_}
-use mathlib.Core.Bool.{false, cond}
+use mathlib.Core.Bool.{false}
 use mathlib.Core.List.{List}
 use lib.ListN.{getD}
-use lib.Dec.{T, eqb}
-use Rattle.arena.specs.Game.{forced}
+use lib.Dec.{T}
+use Rattle.arena.specs.Arena.{forced}
 use Rattle.game.specs.Game.{knownTurn, turnAt, blockAt, fromAt, toAt}
-use Rattle.game.specs.Arena.{sideOf, arenaOf}
-use Rattle.game.specs.Accepted.{Accepted}
+use Rattle.game.specs.Published.{sideOf, arenaOf}
+use Rattle.game.specs.Accepted.{AcceptedGame}
 use Rattle.game.specs.declared.Game.{Game}
 use Rattle.blocks.specs.Blocks.{meets}
 use Rattle.growth.specs.Stamp.{isIn}
-use Rattle.chains.specs.Lent.{Holds, Linked}
-
--- the last of the first m moves that leaves s, counted from 1; 0 for none
-unfoldable pub lastMove : (ℕ → ℕ) → ℕ → ℕ → ℕ
-lastMove from zero s = 0
-lastMove from (suc k) s = cond (eqb (from k) s) (suc k) (lastMove from k s)
+use Rattle.chains.specs.Lent.{Holds, lastOf, Linked}
 
 -- where the moves of s begin: after the last one of the state before it, since moves ascend and every state has one
 abbrev pub firstMove : (ℕ → ℕ) → ℕ → ℕ → ℕ
 firstMove from m zero = 0
-firstMove from m (suc s) = lastMove from m s
+firstMove from m (suc s) = lastOf from m s
 
 -- n states and m moves; whose turn it is, where the moves of each state begin, the states that moves go to, the blocks and their members; a
 -- set, and the hits of each block: where there is none, no member is in the side's forced-step set of it
 pub record Search (g : Game) (side n m : ℕ) (turn first to block last before lower hit : List ℕ) : Type 0 where
-  pub accepted : Accepted g
+  pub accepted : AcceptedGame g
   pub known : T (knownTurn side)
   pub states-is : g .states ≡ n
   pub moves-is : g .moves ≡ m

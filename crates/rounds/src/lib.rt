@@ -8,20 +8,20 @@ use game::Game;
 use game::has_mark;
 ghost use mathlib.Core.Path.{_≡_};
 ghost use mathlib.Core.Bool.{not, _&&_, cond};
-ghost use Prim.Native.Nat.{ℕ, suc, _≤_, _<_};
+ghost use Prim.Native.Nat.{suc, _≤_, _<_};
 ghost use lib.ListN.{length, getD};
 ghost use lib.Dec.{T, eqb};
 ghost use Rattle.arena.specs.Sets.{bit, least};
 ghost use Rattle.game.specs.Limits.{maxStates, maxMoves};
 ghost use Rattle.game.specs.Rows.{fill, zeros};
 ghost use Rattle.game.specs.Game.{knownTurn, marked};
-ghost use Rattle.game.specs.Arena.{sideOf, goalOf};
+ghost use Rattle.game.specs.Published.{sideOf, goalOf};
 ghost use Rattle.game.specs.declared.Game.{Game};
 ghost use Rattle.blocks.specs.Hunt.{hunter, prey};
 ghost use Rattle.chains.specs.Lent.{Holds, Keys, Names, Gathered};
 ghost use Rattle.growth.specs.Net.{hitsOf};
 ghost use Rattle.rounds.specs.Border.{bordering, borderAnswer};
-ghost use Rattle.rounds.specs.Split.{enough, apart, afterSplit};
+ghost use Rattle.rounds.specs.Renamed.{enough, rowApart, afterSplit};
 ghost use Rattle.rounds.specs.Search.{firstMove, Search};
 
 // A row of passes.
@@ -173,7 +173,7 @@ pub fn border_block(
 // The lowest member of block b in the part that state b is not in; the number of states where there is none.
 fn lowest_apart(n: usize, b: usize, need: &[u16], have: &[u16], block: &[u16]) -> u16
     requires { ⌜ (n ≤ maxStates) × (b < n) × (n ≤ length (now need)) × (n ≤ length (now have)) × (n ≤ length (now block)) ⌝ }
-    ensures { λ r. ⌜ r ≡ least n (apart (now (block .entry)) b (enough (now (need .entry)) (now (have .entry)))) ⌝ }
+    ensures { λ r. ⌜ r ≡ least n (rowApart (now (block .entry)) b (enough (now (need .entry)) (now (have .entry)))) ⌝ }
 {
     let inside = have[b] >= need[b];
     let number = b as u16;
@@ -220,7 +220,7 @@ fn rename_apart(n: usize, b: usize, name: u16, need: &[u16], have: &[u16], block
 // the other gets the name that is returned.
 pub fn split_block(n: usize, b: usize, need: &[u16], have: &[u16], block: &mut [u16]) -> u16
     requires { ⌜ (n ≤ maxStates) × (b < n) × (n ≤ length (now need)) × (n ≤ length (now have)) × (n ≤ length (now block)) ⌝ }
-    ensures { λ r. ⌜ r ≡ least n (apart (now (block .entry)) b (enough (now (need .entry)) (now (have .entry)))) ⌝ }
+    ensures { λ r. ⌜ r ≡ least n (rowApart (now (block .entry)) b (enough (now (need .entry)) (now (have .entry)))) ⌝ }
     ensures { λ r. ⌜ Holds n (now (block .exit)) (afterSplit r (now (block .entry)) b (enough (now (need .entry)) (now (have .entry)))) ⌝ }
 {
     let name = lowest_apart(n, b, need, have, block);
@@ -251,8 +251,8 @@ pub fn part_block(
     size: &mut [u16],
     hit: &mut [u16],
 ) -> u16
-    requires { ⌜ (n ≤ maxStates) × (b < n) × (n ≤ length (now need)) × (n ≤ length (now have)) × (n ≤ length (now block)) × Names n (now block) × (getD (now block) b 0 ≡ b) × Gathered n (now block) (now last) (now before) (now size) × Holds n (now hit) (hitsOf n (now block) (now need) (λ s. getD (now have) s 0)) × (least n (apart (now block) b (enough (now need) (now have))) < n) ⌝ }
-    ensures { λ r. ⌜ r ≡ least n (apart (now (block .entry)) b (enough (now (need .entry)) (now (have .entry)))) ⌝ }
+    requires { ⌜ (n ≤ maxStates) × (b < n) × (n ≤ length (now need)) × (n ≤ length (now have)) × (n ≤ length (now block)) × Names n (now block) × (getD (now block) b 0 ≡ b) × Gathered n (now block) (now last) (now before) (now size) × Holds n (now hit) (hitsOf n (now block) (now need) (λ s. getD (now have) s 0)) × (least n (rowApart (now block) b (enough (now need) (now have))) < n) ⌝ }
+    ensures { λ r. ⌜ r ≡ least n (rowApart (now (block .entry)) b (enough (now (need .entry)) (now (have .entry)))) ⌝ }
     ensures { λ r. ⌜ Holds n (now (block .exit)) (afterSplit r (now (block .entry)) b (enough (now (need .entry)) (now (have .entry)))) ⌝ }
     ensures { λ _. ⌜ Gathered n (now (block .exit)) (now (last .exit)) (now (before .exit)) (now (size .exit)) × Holds n (now (hit .exit)) (hitsOf n (now (block .exit)) (now (need .entry)) (λ s. getD (now (have .entry)) s 0)) ⌝ }
 {

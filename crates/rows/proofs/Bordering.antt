@@ -7,21 +7,21 @@ use native.Mathlib.Omega.{arith}
 use lib.ListN.{getD}
 use lib.Dec.{T, eqb, leb, eqb→eq}
 use Rattle.arena.specs.Sets.{Set, some, least}
-use Rattle.arena.specs.Game.{Side, forced}
-use Rattle.arena.proofs.Tests.{not-not, holds, fails, and-l, and-r}
+use Rattle.arena.specs.Arena.{Side, forced}
+use Rattle.arena.proofs.Tests.{holds, and-l}
 use Rattle.arena.proofs.Sets.{least-some}
 use Rattle.arena.proofs.Loops.{some-cong}
 use Rattle.arena.proofs.Least.{least-cong}
 use Rattle.arena.proofs.Passes.{mono-ext}
 use Rattle.arena.proofs.Forced.{forced-mono}
 use Rattle.game.specs.Game.{blockNo, blockAt, targets}
-use Rattle.game.specs.Arena.{sideOf, goalOf, arenaOf}
+use Rattle.game.specs.Published.{sideOf, goalOf, arenaOf}
 use Rattle.game.specs.declared.Game.{Game}
 use Rattle.game.specs.declared.BlockNo.{BlockNo}
 use Rattle.blocks.specs.Blocks.{meets, isBlock}
 use Rattle.blocks.proofs.Hunt.{known-hunter}
-use Rattle.blocks.proofs.Refine.{apart}
-use Rattle.growth.specs.Stamp.{isIn, passAt}
+use Rattle.blocks.specs.Parts.{apart}
+use Rattle.growth.specs.Stamp.{isIn}
 use Rattle.chains.specs.Lent.{Holds}
 use Rattle.growth.specs.Net.{tally, hitsOf}
 use Rattle.growth.specs.Queue.{into}
@@ -29,14 +29,14 @@ use Rattle.chains.proofs.Counts.{count-some, holds-cong}
 use Rattle.growth.proofs.Walking.{tally-cong}
 use Rattle.growth.proofs.Says.{met-is, own-numbers, tos}
 use Rattle.rounds.specs.Border.{bordering, borderAnswer}
-use Rattle.rounds.specs.Split.{enough, afterSplit, apart as rowApart}
+use Rattle.rounds.specs.Renamed.{enough, afterSplit, rowApart}
 use Rattle.rounds.specs.Search.{Search}
 use Rattle.rounds.specs.declared.Border.{Border}
 use Rattle.rounds.specs.declared.Border.the-variants.{At, Nothing}
 use Rattle.rounds.proofs.RowSets.{bordering-set}
-use Rattle.runs.specs.Run.{knownStates, borderOf, OPEN, word, splitGame}
-use Rattle.runs.specs.Work.{lowerStates}
-use Rattle.rows.specs.Rows.{Present, Lowered, Next}
+use Rattle.runs.specs.Run.{intoKnownStates, lowestFirst, OPEN, word, splitGame}
+use Rattle.runs.specs.Hunting.{lowerStates}
+use Rattle.rows.specs.RoundRows.{Present, Lowered, Next}
 use Rattle.runs.proofs.Settled.{nextBlocks, next-block, no-next, block-after}
 use Rattle.rows.proofs.Present.{lent}
 
@@ -94,7 +94,7 @@ module _ {g : Game} {side n m objective : ℕ} {turn starts from to last before 
   }
 
   -- the forced-step set of the lower row is the known set
-  pub known-is : (s : ℕ) → s < n → forced (arenaOf g) (sideOf side) (isIn lower) s ≡ knownStates g s
+  pub known-is : (s : ℕ) → s < n → forced (arenaOf g) (sideOf side) (isIn lower) s ≡ intoKnownStates g s
   unfolding arenaOf
   known-is s l =
       mono-ext (g .states) (forced (arenaOf g) (sideOf side)) (forced-mono (arenaOf g) (sideOf side)) (isIn lower) (lowerStates g) (λ t i. q .lower-in .in-row t (rw (← p .states-is) i)) s (rw (p .states-is) l)
@@ -105,7 +105,7 @@ module _ {g : Game} {side n m objective : ℕ} {turn starts from to last before 
   next-is : (b : ℕ) → b < g .states → bordering g side lower b ≡ nextBlocks g b
   unfolding arenaOf
   next-is b l =
-      let known : forced (arenaOf g) (sideOf side) (lowerStates g) ≡ knownStates g =
+      let known : forced (arenaOf g) (sideOf side) (lowerStates g) ≡ intoKnownStates g =
       ap (λ (i : Side). forced (arenaOf g) i (lowerStates g)) (p .hunts) ∙ sym (known-hunter (arenaOf g) (blockAt g) (targets g) (goalOf (g .objective))) in
       bordering-set g side lower (lowerStates g) (λ s i. q .lower-in .in-row s (rw (← p .states-is) i)) b l
       ∙ ap (λ (X : Set). isBlock (blockAt g) b && (not (lowerStates g b) && meets (g .states) (blockAt g) X b)) known
@@ -115,41 +115,32 @@ module _ {g : Game} {side n m objective : ℕ} {turn starts from to last before 
   nothing-next found e none = no-next g (p .accepted)
       (sym (some-cong (g .states) _ _ next-is) ∙ subst (λ (k : ℕ). some k (bordering g side lower) ≡ false) (sym (p .states-is)) (answer-nothing n (bordering g side lower) found e none))
 
-  -- or the lowest-numbered border block, which is outside and has a hit
-  pub next-found : (found : Border) (b : BlockNo) → found ≡ borderAnswer n (bordering g side lower) → found ≡ At b → Next g n block hit lower (b .0)
+  -- or the lowest-numbered border block
+  pub next-found : (found : Border) (b : BlockNo) → found ≡ borderAnswer n (bordering g side lower) → found ≡ At b → Next g n block (b .0)
   unfolding bordering
   next-found found b e is =
       let w = answer-at n (bordering g side lower) found b e is in
       let c = b .0 in
-      let own = eqb→eq (blockAt g c) c (and-l (eqb (blockAt g c) c) (not (isIn lower c) && M c) (w .2)) in
-      let rest = and-r (eqb (blockAt g c) c) (not (isIn lower c) && M c) (w .2) in
       record {
         state = w .0;
         here = w .1 ∙ subst (λ (k : ℕ). least k (bordering g side lower) ≡ least (g .states) (bordering g side lower)) (p .states-is) refl
             ∙ least-cong (g .states) _ _ next-is ∙ next-block g;
-        name = p .block-is .cell c (w .0) ∙ own;
-        outside = out (passAt lower c) (and-l (not (isIn lower c)) (M c) rest);
-        struck = λ none. fails (M c) (searched .unhit c (w .0) own none) (and-r (not (isIn lower c)) (M c) rest);
+        name = p .block-is .cell c (w .0)
+            ∙ eqb→eq (blockAt g c) c (and-l (eqb (blockAt g c) c) (not (isIn lower c) && meets (g .states) (blockAt g) (forced (arenaOf g) (sideOf side) (isIn lower)) c) (w .2));
       }
-    where
-      M : Set
-      M s = meets (g .states) (blockAt g) (forced (arenaOf g) (sideOf side) (isIn lower)) s
-
-      out : (v : ℕ) → T (not (not (eqb v 0))) → v ≡ 0
-      out v h = eqb→eq v 0 (subst T (not-not (eqb v 0)) h)
 
   -- ## The split
 
   -- the part that leaves, by the row of what each state has
-  apart-is : (b : ℕ) → b < n → (s : ℕ) → s < n → rowApart block b (enough need have) s ≡ apart (blockAt g) b (knownStates g) s
+  apart-is : (b : ℕ) → b < n → (s : ℕ) → s < n → rowApart block b (enough need have) s ≡ apart (blockAt g) b (intoKnownStates g) s
   apart-is b l s i = rw (p .block-is .cell s i, enough-is s i, known-is s i, enough-is b l, known-is b l) refl
 
-  pub new-name : {b c : ℕ} → b < n → c ≡ least n (rowApart block b (enough need have)) → c ≡ least (g .states) (apart (blockAt g) b (knownStates g))
-  new-name {b} {c} l e = e ∙ least-cong n _ _ (apart-is b l) ∙ ap (λ (k : ℕ). least k (apart (blockAt g) b (knownStates g))) (sym (p .states-is))
+  pub new-name : {b c : ℕ} → b < n → c ≡ least n (rowApart block b (enough need have)) → c ≡ least (g .states) (apart (blockAt g) b (intoKnownStates g))
+  new-name {b} {c} l e = e ∙ least-cong n _ _ (apart-is b l) ∙ ap (λ (k : ℕ). least k (apart (blockAt g) b (intoKnownStates g))) (sym (p .states-is))
 
   -- the row of blocks after it
-  pub split-blocks : {b c : ℕ} {finer : List ℕ} → b < n → b ≡ borderOf g → c ≡ least n (rowApart block b (enough need have)) → Holds n finer (afterSplit c block b (enough need have))
-      → Holds n finer (blockAt (splitGame g))
+  pub split-blocks : {b c : ℕ} {finer : List ℕ} → b < n → b ≡ lowestFirst g → c ≡ least n (rowApart block b (enough need have)) → Holds n finer (afterSplit c block b (enough need have))
+      → Holds n finer (blockAt (splitGame lowestFirst g))
   split-blocks {b} {c} l here new renamed = holds-cong renamed (λ s i.
       rw (apart-is b l s i, p .block-is .cell s i)
       (sym (block-after g (p .accepted) b here (rw (p .states-is) l) c (new-name l new) s (rw (p .states-is) i))))

@@ -7,15 +7,17 @@ use native.Mathlib.Omega.{arith}
 use lib.ListN.{getD}
 use lib.Dec.{eqb}
 use Rattle.arena.specs.Sets.{Set, bit}
-use Rattle.arena.specs.Game.{Side}
+use Rattle.arena.specs.Arena.{Side}
 use Rattle.arena.specs.Win.{Goal, toReach, toStay}
 use Rattle.arena.specs.Passes.{grow}
 use Rattle.arena.proofs.Loops.{some-cong, every-cong}
 use Rattle.game.specs.Limits.{maxStates, maxMoves}
 use Rattle.game.specs.Game.{marked, blockAt, initials}
-use Rattle.game.specs.Arena.{sideOf, goalOf, arenaOf}
+use Rattle.game.specs.Published.{sideOf, goalOf, arenaOf}
 use Rattle.game.specs.declared.Game.{Game}
-use Rattle.blocks.specs.Hunt.{insideStep, meetsStep, lower, upper}
+use Rattle.game.proofs.Ranged.{accepted-ranged}
+use Rattle.blocks.specs.Round.{insideStep, meetsStep}
+use Rattle.blocks.specs.Hunt.{lower, upper}
 use Rattle.growth.specs.Stamp.{isIn, entered, passAt, stampFrom, stamp, joining}
 use Rattle.chains.specs.Lent.{Holds, Names, needOf, Lent}
 use Rattle.blocks.proofs.Hunt.{lower-upper}
@@ -23,9 +25,9 @@ use Rattle.growth.proofs.Stamp.{entered-no, stamp-cong}
 use Rattle.growth.proofs.Says.{joining-mono}
 use Rattle.arena.proofs.Sets.{Sub}
 use Rattle.arena.proofs.Passes.{Mono, grow-le, grow-between}
-use Rattle.runs.specs.Run.{splitGame}
-use Rattle.runs.specs.Work.{huntingSide, preyStates, lowerStates, upperStates, hasWay}
-use Rattle.rows.specs.Rows.{Present, Saying}
+use Rattle.runs.specs.Run.{lowestFirst, splitGame}
+use Rattle.runs.specs.Hunting.{huntingSide, preyStates, lowerStates, upperStates, hasWay}
+use Rattle.rows.specs.RoundRows.{Present, Saying}
 use Rattle.runs.proofs.Rounds.{split-accepted}
 
 module _ {g : Game} {side n m objective : ℕ} {turn starts from to last before need first prey block : List ℕ}
@@ -33,7 +35,7 @@ module _ {g : Game} {side n m objective : ℕ} {turn starts from to last before 
   -- the rows that growth works on
   pub lent : Lent g side n m from to need block
   lent = record {
-    accepted = p .accepted;
+    ranged = accepted-ranged (p .accepted);
     known = p .known;
     states-is = p .states-is;
     moves-is = p .moves-is;
@@ -58,10 +60,10 @@ module _ {g : Game} {side n m objective : ℕ} {turn starts from to last before 
   }
 
   -- the same rows with other blocks, for the game with its border block split
-  pub present-split : {finer : List ℕ} → Holds n finer (blockAt (splitGame g)) → Present (splitGame g) side n m objective turn starts from to last before need first prey finer
+  pub present-split : {finer : List ℕ} → Holds n finer (blockAt (splitGame lowestFirst g)) → Present (splitGame lowestFirst g) side n m objective turn starts from to last before need first prey finer
   unfolding splitGame needOf
   present-split blocks = record {
-    accepted = split-accepted g (p .accepted);
+    accepted = split-accepted lowestFirst g (p .accepted);
     known = p .known;
     hunts = p .hunts;
     states-is = p .states-is;

@@ -1,7 +1,7 @@
 -- From one round to the next: the rows after the split of the border block.
 use Prim.Native.Nat.{ℕ, zero, suc, _<_}
 use native.Mathlib.Nat.{le-refl}
-use mathlib.Core.Path.{_≡_, refl}
+use mathlib.Core.Path.{_≡_, refl, sym, subst}
 use mathlib.Core.Bool.{Bool, true, false, cond}
 use mathlib.Core.List.{List}
 use lib.ListN.{getD}
@@ -9,19 +9,21 @@ use lib.Dec.{eqb}
 use Rattle.arena.specs.Sets.{least}
 use Rattle.game.specs.Game.{blockAt}
 use Rattle.game.specs.declared.Game.{Game}
+use Rattle.blocks.specs.Parts.{apart}
 use Rattle.growth.specs.Stamp.{passAt, stampFrom, joining}
 use Rattle.chains.specs.Lent.{Holds, Gathered}
 use Rattle.growth.specs.Net.{net, hitsOf}
 use Rattle.growth.specs.Queue.{Grown, Regrowing}
 use Rattle.chains.proofs.Counts.{count-cong, holds-cong}
 use Rattle.chains.proofs.Filling.{row-holds}
-use Rattle.growth.proofs.Parts.{straddles, regrowing}
-use Rattle.rounds.specs.Split.{enough, apart, afterSplit}
-use Rattle.runs.specs.Run.{splitGame, round}
-use Rattle.rows.specs.Rows.{Present, Lowered, Next}
+use Rattle.growth.proofs.Members.{regrowing}
+use Rattle.rounds.specs.Renamed.{enough, rowApart, afterSplit}
+use Rattle.runs.specs.Run.{intoKnownStates, lowestFirst, splitGame, round}
+use Rattle.rows.specs.RoundRows.{Present, Lowered, Next}
+use Rattle.runs.proofs.Rounds.{border-parts, lowest-found}
 use Rattle.runs.proofs.Settled.{lower-split}
 use Rattle.rows.proofs.Present.{names, present-split, grown-set, lower-between}
-use Rattle.rows.proofs.Bordering.{split-blocks}
+use Rattle.rows.proofs.Bordering.{new-name, split-blocks}
 
 module _ {g : Game} {side n m objective : ℕ} {turn starts from to last before need first prey block last' before' size have hit lower queue : List ℕ} {tail : ℕ}
     (p : Present g side n m objective turn starts from to last before need first prey block)
@@ -31,21 +33,24 @@ module _ {g : Game} {side n m objective : ℕ} {turn starts from to last before 
   unfolding hitsOf
   hits-have = holds-cong (q .grown .hit-is) (λ b _. count-cong n _ _ (λ s l. rw (q .grown .counted .counts .cell s l) refl))
 
-  module _ {b : ℕ} (next : Next g n block hit lower b) where
+  module _ {b : ℕ} (next : Next g n block b) where
     -- the border block has members of both kinds
-    pub both-parts : least n (apart block b (enough need have)) < n
-    both-parts = straddles (q .grown) (names p) (q .gathered) (next .state) (next .name) (next .outside) (next .struck)
+    pub both-parts : least n (rowApart block b (enough need have)) < n
+    both-parts =
+        rw (new-name p q (next .state) refl, ← p .states-is)
+        (subst (λ (x : ℕ). least (g .states) (apart (blockAt g) x (intoKnownStates g)) < g .states) (sym (next .here))
+        (border-parts g (lowest-found g (subst (λ (x : ℕ). x < g .states) (next .here) (rw (p .states-is) (next .state))))))
 
-    module _ {c : ℕ} (new : c ≡ least n (apart block b (enough need have))) {finer : List ℕ} (renamed : Holds n finer (afterSplit c block b (enough need have)))
+    module _ {c : ℕ} (new : c ≡ least n (rowApart block b (enough need have))) {finer : List ℕ} (renamed : Holds n finer (afterSplit c block b (enough need have)))
         {last₁ before₁ size₁ hit₁ : List ℕ} (gathered : Gathered n finer last₁ before₁ size₁) (struck : Holds n hit₁ (hitsOf n finer need (λ s. getD have s 0))) where
       pub part-small : c < n
       part-small = rw new both-parts
 
       -- the row of blocks is that of the next round
-      pub next-blocks : Holds n finer (blockAt (splitGame g))
+      pub next-blocks : Holds n finer (blockAt (splitGame lowestFirst g))
       next-blocks = split-blocks p q (next .state) (next .here) new renamed
 
-      pub next-present : Present (splitGame g) side n m objective turn starts from to last before need first prey finer
+      pub next-present : Present (splitGame lowestFirst g) side n m objective turn starts from to last before need first prey finer
       next-present = present-split p next-blocks
 
       -- the inner part is due
@@ -61,13 +66,13 @@ module _ {g : Game} {side n m objective : ℕ} {turn starts from to last before 
 
       -- what is surely brought about has grown on
       pub next-lowered : {have₁ hit₂ lower₁ queue₁ : List ℕ} {tail₁ : ℕ} → Grown (net n m true from to need finer size₁) have₁ hit₂ lower₁ queue₁ tail₁
-          → Holds n lower₁ (stampFrom (joining (splitGame g) side true) (passAt lower) n) → Lowered (splitGame g) n m from to need finer last₁ before₁ size₁ have₁ hit₂ lower₁ queue₁ tail₁
+          → Holds n lower₁ (stampFrom (joining (splitGame lowestFirst g) side true) (passAt lower) n) → Lowered (splitGame lowestFirst g) n m from to need finer last₁ before₁ size₁ have₁ hit₂ lower₁ queue₁ tail₁
       unfolding splitGame
       next-lowered grown held = record {
         gathered = gathered;
         grown = grown;
         lower-in = grown-set next-present true lower held (lower-between p (q .lower-in) .0)
-            (λ s l x. lower-split g (p .accepted) s (rw (p .states-is) l) (rw (q .lower-in .in-row s l) at x));
+            (λ s l x. lower-split lowestFirst g (p .accepted) s (rw (p .states-is) l) (rw (q .lower-in .in-row s l) at x));
       }
 
 -- ## The rounds of a run
@@ -95,8 +100,8 @@ present-again p held = record {
 
 -- the game of each round, with its blocks
 pub present-round : (k : ℕ) {g : Game} {side n m objective : ℕ} {turn starts from to last before need first prey block row : List ℕ}
-    → Present g side n m objective turn starts from to last before need first prey block → Holds n row (blockAt (round k g)) → Present (round k g) side n m objective turn starts from to last before need first prey row
+    → Present g side n m objective turn starts from to last before need first prey block → Holds n row (blockAt (round lowestFirst k g)) → Present (round lowestFirst k g) side n m objective turn starts from to last before need first prey row
 unfolding round
 present-round zero p held = present-again p held
 present-round (suc k) {g} {side} {n} {m} {objective} {turn} {starts} {from} {to} {last} {before} {need} {first} {prey} {block} {row} p held =
-    present-round k (present-split p (row-holds n n (le-refl n) (blockAt (splitGame g)) refl)) held
+    present-round k (present-split p (row-holds n n (le-refl n) (blockAt (splitGame lowestFirst g)) refl)) held

@@ -6,9 +6,9 @@ ghost use mathlib.Core.Path.{_≡_};
 ghost use Prim.Native.Nat.{_≤_};
 ghost use Rattle.game.specs.Game.{blockAt};
 ghost use Rattle.chains.specs.Lent.{Holds};
-ghost use Rattle.runs.specs.Run.{round};
+ghost use Rattle.runs.specs.Run.{lowestFirst, round};
 ghost use Rattle.runs.specs.First.{Bisecting};
-ghost use Rattle.rows.specs.Rows.{Retracing};
+ghost use Rattle.rows.specs.RoundRows.{Retracing};
 
 // The round after `made` splits is lost, and none of the first `clear` rounds is. The first round that is lost, and its
 // blocks in place of those of the last round.
@@ -30,7 +30,7 @@ pub fn first_lost(
     block: &mut [u16],
 ) -> usize
     requires { ⌜ Retracing n m objective clear made (now starts) (now from) (now to) (now last) (now before) (now need) (now prey) (now parents) (now names) (now block) ⌝ }
-    ensures { λ r. ⌜ ((t : Retracing n m objective clear made (now (starts .entry)) (now (from .entry)) (now (to .entry)) (now (last .entry)) (now (before .entry)) (now (need .entry)) (now (prey .entry)) (now (parents .entry)) (now (names .entry)) (now (block .entry))) → Bisecting (t .game) r r × Holds n (now (block .exit)) (blockAt (round r (t .game)))) × (r ≤ made) × (made ≡ 0 → now (block .exit) ≡ now (block .entry)) ⌝ }
+    ensures { λ r. ⌜ ((t : Retracing n m objective clear made (now (starts .entry)) (now (from .entry)) (now (to .entry)) (now (last .entry)) (now (before .entry)) (now (need .entry)) (now (prey .entry)) (now (parents .entry)) (now (names .entry)) (now (block .entry))) → Bisecting (t .game) r r × Holds n (now (block .exit)) (blockAt (round lowestFirst r (t .game)))) × (r ≤ made) × (made ≡ 0 → now (block .exit) ≡ now (block .entry)) ⌝ }
 {
     let mut earlier = [0u16; Game::MAX_STATES];
     let mut low = clear;

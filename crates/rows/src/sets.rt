@@ -15,8 +15,8 @@ ghost use Rattle.growth.specs.Stamp.{passAt, stampFrom, joining};
 ghost use Rattle.chains.specs.Lent.{Holds, Linked, Gathered, Lent};
 ghost use Rattle.growth.specs.Net.{net};
 ghost use Rattle.growth.specs.Queue.{Grown};
-ghost use Rattle.runs.specs.Work.{upperStates, catchable};
-ghost use Rattle.rows.specs.Rows.{Present, Saying, Underway};
+ghost use Rattle.runs.specs.Hunting.{upperStates, catchable};
+ghost use Rattle.rows.specs.RoundRows.{Present, Saying, Underway};
 
 // Numbers by state.
 pub type Row = [u16; Game::MAX_STATES];

@@ -3,13 +3,12 @@ use growth::grow_on;
 use rounds::part_block;
 ghost use mathlib.Core.Path.{_≡_};
 ghost use mathlib.Core.Bool.{cond};
-ghost use lib.ListN.{getD};
 ghost use Rattle.arena.specs.Sets.{least};
 ghost use Rattle.game.specs.Game.{blockAt};
 ghost use Rattle.chains.specs.Lent.{Holds};
-ghost use Rattle.rounds.specs.Split.{enough, apart};
-ghost use Rattle.runs.specs.Run.{splitGame};
-ghost use Rattle.rows.specs.Rows.{Lowered, Underway, Next};
+ghost use Rattle.rounds.specs.Renamed.{enough, rowApart};
+ghost use Rattle.runs.specs.Run.{lowestFirst, splitGame};
+ghost use Rattle.rows.specs.RoundRows.{Lowered, Underway, Next};
 
 // What a split leaves: the name of the new block, and the end of the queue.
 pub struct Step {
@@ -47,9 +46,9 @@ pub fn split_round(
     lower: &mut [u16],
     queue: &mut [u16],
 ) -> Step
-    requires { ⌜ ((u : Underway n m (now from) (now to) (now last) (now before) (now need) (now block) (now «last_member») (now «member_before») (now size) (now have) (now hit) (now lower) (now queue) tail) × Next (u .game) n (now block) (now hit) (now lower) b) ⌝ }
-    ensures { λ r. ⌜ r .name ≡ least n (apart (now (block .entry)) b (enough (now (need .entry)) (now (have .entry)))) ⌝ }
-    ensures { λ r. ⌜ ((u : Underway n m (now (from .entry)) (now (to .entry)) (now (last .entry)) (now (before .entry)) (now (need .entry)) (now (block .entry)) (now («last_member» .entry)) (now («member_before» .entry)) (now (size .entry)) (now (have .entry)) (now (hit .entry)) (now (lower .entry)) (now (queue .entry)) tail) → Next (u .game) n (now (block .entry)) (now (hit .entry)) (now (lower .entry)) b → Holds n (now (block .exit)) (blockAt (splitGame (u .game))) × Lowered (splitGame (u .game)) n m (now (from .entry)) (now (to .entry)) (now (need .entry)) (now (block .exit)) (now («last_member» .exit)) (now («member_before» .exit)) (now (size .exit)) (now (have .exit)) (now (hit .exit)) (now (lower .exit)) (now (queue .exit)) (r .tail)) ⌝ }
+    requires { ⌜ ((u : Underway n m (now from) (now to) (now last) (now before) (now need) (now block) (now «last_member») (now «member_before») (now size) (now have) (now hit) (now lower) (now queue) tail) × Next (u .game) n (now block) b) ⌝ }
+    ensures { λ r. ⌜ r .name ≡ least n (rowApart (now (block .entry)) b (enough (now (need .entry)) (now (have .entry)))) ⌝ }
+    ensures { λ r. ⌜ ((u : Underway n m (now (from .entry)) (now (to .entry)) (now (last .entry)) (now (before .entry)) (now (need .entry)) (now (block .entry)) (now («last_member» .entry)) (now («member_before» .entry)) (now (size .entry)) (now (have .entry)) (now (hit .entry)) (now (lower .entry)) (now (queue .entry)) tail) → Next (u .game) n (now (block .entry)) b → Holds n (now (block .exit)) (blockAt (splitGame lowestFirst (u .game))) × Lowered (splitGame lowestFirst (u .game)) n m (now (from .entry)) (now (to .entry)) (now (need .entry)) (now (block .exit)) (now («last_member» .exit)) (now («member_before» .exit)) (now (size .exit)) (now (have .exit)) (now (hit .exit)) (now (lower .exit)) (now (queue .exit)) (r .tail)) ⌝ }
 {
     let name = part_block(
         n,

@@ -9,8 +9,8 @@ use Rattle.arena.specs.Win.{toReach, toStay}
 use Rattle.arena.proofs.Tests.{not-not}
 use Rattle.arena.proofs.Loops.{some-found, some-cong}
 use Rattle.arena.proofs.Sets.{not-every}
-use Rattle.game.specs.Arena.{goalOf}
-use Rattle.runs.specs.Work.{hasWay}
+use Rattle.game.specs.Published.{goalOf}
+use Rattle.runs.specs.Hunting.{hasWay}
 
 -- the starts that decide: those in X for reach, those outside it for stay
 abbrev pub deciding : Bool → Set → Set → Set

@@ -6,10 +6,10 @@ use mathlib.Core.Logic.{inl, inr}
 use native.Mathlib.Nat.{not-suc-le-zero}
 use native.Mathlib.Omega.{arith}
 use Rattle.arena.proofs.Tests.{is-true, is-false}
-use Rattle.game.specs.Accepted.{Accepted}
+use Rattle.game.specs.Accepted.{AcceptedGame}
 use Rattle.game.specs.declared.Game.{Game}
-use Rattle.runs.specs.Run.{OPEN, word, run, round}
-use Rattle.runs.specs.Work.{caught, catchable}
+use Rattle.runs.specs.Run.{lowestFirst, OPEN, word, run, round}
+use Rattle.runs.specs.Hunting.{caught, catchable}
 use Rattle.runs.specs.First.{UncaughtBefore, CatchableBefore, Bisecting}
 use Rattle.runs.proofs.Settled.{caught-catchable, word-open, open-unsettled, run-is, caught-later, catchable-earlier, open-earlier}
 
@@ -20,21 +20,21 @@ pub uncaught-none : (g : Game) → UncaughtBefore g 0
 uncaught-none g j e = absurd (omega arith)
 
 -- before the next round there is this one
-pub uncaught-more : (g : Game) (k : ℕ) → caught (round k g) ≡ false → UncaughtBefore g (k + 1)
+pub uncaught-more : (g : Game) (k : ℕ) → caught (round lowestFirst k g) ≡ false → UncaughtBefore g (k + 1)
 uncaught-more g k h j e = let q : j ≡ k = omega arith in rw q h
 
 -- before the first round there is none
 pub catchable-none : (g : Game) → CatchableBefore g 0
 catchable-none g i l = absurd (not-suc-le-zero l)
 
-module _ (g : Game) (ok : Accepted g) where
+module _ (g : Game) (ok : AcceptedGame g) where
   -- if the hunting side may have its way in this round, it may in all before the next
-  pub catchable-more : (k : ℕ) → catchable (round k g) ≡ true → CatchableBefore g (k + 1)
-  catchable-more k h i l = catchable-earlier g ok i k (omega arith) h
+  pub catchable-more : (k : ℕ) → catchable (round lowestFirst k g) ≡ true → CatchableBefore g (k + 1)
+  catchable-more k h i l = catchable-earlier lowestFirst g ok i k (omega arith) h
 
   -- if the hunting side does not surely have its way in this round, it does not in any before
-  pub uncaught-earlier : (j k : ℕ) → j ≤ k → caught (round k g) ≡ false → caught (round j g) ≡ false
-  uncaught-earlier j k l h = is-false _ (λ x. true≢false (sym (caught-later g ok j k l (is-true _ x)) ∙ h))
+  pub uncaught-earlier : (j k : ℕ) → j ≤ k → caught (round lowestFirst k g) ≡ false → caught (round lowestFirst j g) ≡ false
+  uncaught-earlier j k l h = is-false _ (λ x. true≢false (sym (caught-later lowestFirst g ok j k l (is-true _ x)) ∙ h))
 
 -- a round in which the hunting side cannot have its way is not one in which it surely does
 pub lost-uncaught : (g : Game) → catchable g ≡ false → caught g ≡ false
@@ -43,35 +43,35 @@ lost-uncaught g h = is-false (caught g) (λ x. true≢false (sym (caught-catchab
 -- ## The first lost round is narrowed down
 
 -- a lost round in the middle: the first is that one or one before it
-pub bisect-left : {g : Game} {lo hi : ℕ} → Bisecting g lo hi → (mid : ℕ) → lo ≤ mid → catchable (round mid g) ≡ false → Bisecting g lo mid
+pub bisect-left : {g : Game} {lo hi : ℕ} → Bisecting g lo hi → (mid : ℕ) → lo ≤ mid → catchable (round lowestFirst mid g) ≡ false → Bisecting g lo mid
 bisect-left b mid l h = record { low = l; hope = b .hope; lost = h }
 
 -- a round in the middle that is not lost: the first is one after it
-pub bisect-right : {g : Game} → Accepted g → {lo hi : ℕ} → Bisecting g lo hi → (mid : ℕ) → mid < hi → catchable (round mid g) ≡ true
+pub bisect-right : {g : Game} → AcceptedGame g → {lo hi : ℕ} → Bisecting g lo hi → (mid : ℕ) → mid < hi → catchable (round lowestFirst mid g) ≡ true
     → Bisecting g (mid + 1) hi
 bisect-right {g} ok b mid l h = record { low = omega arith; hope = catchable-more g ok mid h; lost = b .lost }
 
 -- ## The ends of a run
 
-module _ (g : Game) (ok : Accepted g) (a : ℕ) where
+module _ (g : Game) (ok : AcceptedGame g) (a : ℕ) where
   -- the first lost round has been found: the run ends there
-  pub settled-run : {lo hi : ℕ} → Bisecting g lo hi → hi ≤ lo → hi ≤ a → run a g ≡ record { splits = hi; last = round hi g }
+  pub settled-run : {lo hi : ℕ} → Bisecting g lo hi → hi ≤ lo → hi ≤ a → run lowestFirst a g ≡ record { splits = hi; last = round lowestFirst hi g }
   settled-run {lo} {hi} b l m =
-      run-is a hi g m
-      (λ i k. word-open (round i g) (uncaught-earlier g ok i hi (omega arith) (lost-uncaught (round hi g) (b .lost))) (b .hope i (omega arith)))
-      (inl (λ e. true≢false (sym (open-unsettled (round hi g) e .1) ∙ b .lost)))
+      run-is lowestFirst a hi g m
+      (λ i k. word-open (round lowestFirst i g) (uncaught-earlier g ok i hi (omega arith) (lost-uncaught (round lowestFirst hi g) (b .lost))) (b .hope i (omega arith)))
+      (inl (λ e. true≢false (sym (open-unsettled (round lowestFirst hi g) e .1) ∙ b .lost)))
 
   -- the first round in which the hunting side surely has its way: the run ends there
-  pub caught-run : (k : ℕ) → k ≤ a → UncaughtBefore g k → caught (round k g) ≡ true → run a g ≡ record { splits = k; last = round k g }
+  pub caught-run : (k : ℕ) → k ≤ a → UncaughtBefore g k → caught (round lowestFirst k g) ≡ true → run lowestFirst a g ≡ record { splits = k; last = round lowestFirst k g }
   caught-run k m before h =
-      run-is a k g m (open-before k before h) (inl (λ e. true≢false (sym h ∙ open-unsettled (round k g) e .0)))
+      run-is lowestFirst a k g m (open-before k before h) (inl (λ e. true≢false (sym h ∙ open-unsettled (round lowestFirst k g) e .0)))
     where
-      open-before : (k : ℕ) → UncaughtBefore g k → caught (round k g) ≡ true → (i : ℕ) → i < k → word (round i g) ≡ OPEN
+      open-before : (k : ℕ) → UncaughtBefore g k → caught (round lowestFirst k g) ≡ true → (i : ℕ) → i < k → word (round lowestFirst i g) ≡ OPEN
       open-before zero before h i l = absurd (not-suc-le-zero l)
       open-before (suc j) before h i l =
-          word-open (round i g) (uncaught-earlier g ok i j (omega arith) (before j (omega arith)))
-          (catchable-earlier g ok i (suc j) (omega arith) (caught-catchable (round (suc j) g) h))
+          word-open (round lowestFirst i g) (uncaught-earlier g ok i j (omega arith) (before j (omega arith)))
+          (catchable-earlier lowestFirst g ok i (suc j) (omega arith) (caught-catchable (round lowestFirst (suc j) g) h))
 
   -- a round that is not settled, with all allowed splits made: the run ends there
-  pub open-run : (k : ℕ) → k ≡ a → caught (round k g) ≡ false → catchable (round k g) ≡ true → run a g ≡ record { splits = k; last = round k g }
-  open-run k e lo up = run-is a k g (omega arith) (λ i l. open-earlier g ok i k (omega arith) lo up) (inr e)
+  pub open-run : (k : ℕ) → k ≡ a → caught (round lowestFirst k g) ≡ false → catchable (round lowestFirst k g) ≡ true → run lowestFirst a g ≡ record { splits = k; last = round lowestFirst k g }
+  open-run k e lo up = run-is lowestFirst a k g (omega arith) (λ i l. open-earlier lowestFirst g ok i k (omega arith) lo up) (inr e)

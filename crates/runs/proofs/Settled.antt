@@ -6,29 +6,27 @@ use mathlib.Core.Logic.{_⊎_, inl, inr}
 use native.Mathlib.Nat.{le-of-suc-le-suc}
 use native.Mathlib.Decide.{le-ind}
 use native.Mathlib.Omega.{arith}
-use lib.Dec.{T, eqb, eqb→eq}
+use lib.Dec.{T, eqb}
 use borrow.Author.Tests.{eq-eqb}
 use Rattle.arena.specs.Sets.{Set, imp, some, every, least}
-use Rattle.arena.specs.Game.{Game as Arena}
+use Rattle.arena.specs.Arena.{Arena}
 use Rattle.arena.specs.Win.{Goal, toReach, toStay}
-use Rattle.arena.specs.Passes.{grow}
-use Rattle.arena.proofs.Tests.{is-true, is-false, holds, fails, and-intro, and-l, and-not}
-use Rattle.arena.proofs.Sets.{Sub, not-every, some-intro, meets-in, meets-out, within-in, within-out, least-hit}
-use Rattle.arena.proofs.Passes.{grow-between}
+use Rattle.arena.proofs.Tests.{is-true, is-false, holds, fails, and-intro, and-not}
+use Rattle.arena.proofs.Sets.{Sub, not-every, some-intro, meets-in, meets-out, within-in, within-out}
 use Rattle.arena.proofs.Least.{least-cong}
 use Rattle.game.specs.Game.{blockAt, initials, targets, hasMove}
-use Rattle.game.specs.Arena.{goalOf, arenaOf}
-use Rattle.game.specs.Accepted.{Accepted}
+use Rattle.game.specs.Published.{goalOf, arenaOf}
+use Rattle.game.specs.Accepted.{AcceptedGame}
 use Rattle.game.specs.declared.Game.{Game}
 use Rattle.blocks.specs.Blocks.{meets, isBlock}
 use Rattle.blocks.specs.Round.{sure, possible, border, borderBlock}
-use Rattle.blocks.specs.Hunt.{hunter, prey, insideStep, meetsStep, lower, upper}
-use Rattle.blocks.proofs.Hunt.{insideStep-mono, meetsStep-mono, lower-target, lower-upper, sure-reach, possible-reach, sure-stay, possible-stay, known-hunter, undecided-hunter}
-use Rattle.blocks.proofs.Split.{split-finer}
-use Rattle.blocks.proofs.Refine.{Refines, lower-refine, upper-refine, meets-upper, apart, split-is, split-undone}
-use Rattle.runs.specs.Run.{knownStates, borderOf, Word, YES, NO, OPEN, word, splitGame, oneMore, ended, ifOpen, run, round}
-use Rattle.runs.specs.Work.{huntingSide, preyStates, lowerStates, upperStates, hasWay, caught, catchable}
-use Rattle.runs.proofs.Rounds.{accepted-named, open-border-block, split-block}
+use Rattle.blocks.specs.Parts.{apart}
+use Rattle.blocks.specs.Hunt.{hunter, prey, lower, upper}
+use Rattle.blocks.proofs.Hunt.{lower-upper, sure-reach, possible-reach, sure-stay, possible-stay, known-hunter, undecided-hunter}
+use Rattle.blocks.proofs.Refine.{lower-refine, upper-refine, meets-upper, split-is, split-undone}
+use Rattle.runs.specs.Run.{intoKnownStates, Choice, lowestFirst, Word, YES, NO, OPEN, word, splitGame, oneMore, ended, ifOpen, run, round}
+use Rattle.runs.specs.Hunting.{huntingSide, preyStates, lowerStates, upperStates, hasWay, caught, catchable}
+use Rattle.runs.proofs.Rounds.{accepted-named, lowest-found, lowest-borders, split-block, split-refines}
 use Rattle.runs.proofs.Runs.{round-accepted, yes-open, no-open}
 
 -- ## What a round says
@@ -126,105 +124,75 @@ open-unsettled g e = go (goalOf (g .objective)) (caught g) (catchable g) (sym (w
 -- ## From round to round
 
 -- the round after one split more
-pub round-more : (k : ℕ) (g : Game) → round (suc k) g ≡ splitGame (round k g)
+pub round-more : (choose : Choice) (k : ℕ) (g : Game) → round choose (suc k) g ≡ splitGame choose (round choose k g)
 unfolding round
-round-more zero g = refl
-round-more (suc k) g = round-more k (splitGame g)
+round-more choose zero g = refl
+round-more choose (suc k) g = round-more choose k (splitGame choose g)
 
 -- a run whose rounds are open as yet up to one that is not, or in which the allowance is used up, ends there
-pub run-is : (a k : ℕ) (g : Game) → k ≤ a → ((i : ℕ) → i < k → word (round i g) ≡ OPEN) → ((word (round k g) ≡ OPEN → ⊥) ⊎ (k ≡ a))
-    → run a g ≡ record { splits = k; last = round k g }
+pub run-is : (choose : Choice) (a k : ℕ) (g : Game) → k ≤ a → ((i : ℕ) → i < k → word (round choose i g) ≡ OPEN) → ((word (round choose k g) ≡ OPEN → ⊥) ⊎ (k ≡ a))
+    → run choose a g ≡ record { splits = k; last = round choose k g }
 unfolding run round
-run-is zero zero g l before here = refl
-run-is zero (suc k) g l before here = absurd (omega arith)
-run-is (suc a) zero g l before here = go (word g) refl
+run-is choose zero zero g l before here = refl
+run-is choose zero (suc k) g l before here = absurd (omega arith)
+run-is choose (suc a) zero g l before here = go (word g) refl
   where
-    go : (w : Word) → word g ≡ w → ifOpen w (oneMore (run a (splitGame g))) (ended g) ≡ ended g
+    go : (w : Word) → word g ≡ w → ifOpen w (oneMore (run choose a (splitGame choose g))) (ended g) ≡ ended g
     go YES e = refl
     go NO e = refl
     go OPEN e = elim here [ inl shut ↦ absurd (shut e) | inr used ↦ absurd (omega arith) ]
-run-is (suc a) (suc k) g l before here =
+run-is choose (suc a) (suc k) g l before here =
     rw (before 0 (omega arith))
     (ap oneMore
-    (run-is a k (splitGame g) (le-of-suc-le-suc l) (λ i m. before (suc i) (omega arith))
+    (run-is choose a k (splitGame choose g) (le-of-suc-le-suc l) (λ i m. before (suc i) (omega arith))
     (elim here [ inl shut ↦ inl shut | inr used ↦ inr (omega arith) ])))
 
-module _ (g : Game) (ok : Accepted g) where
-  -- each block after a split lies in one before it
-  split-refines : Refines (g .states) (blockAt (splitGame g)) (blockAt g)
-  split-refines s t l k e =
-      split-finer (g .states) (blockAt g) (borderOf g) (knownStates g) (accepted-named g ok) s t l k (sym (split-block g s l) ∙ e ∙ split-block g t k)
-
+module _ (choose : Choice) (g : Game) (ok : AcceptedGame g) where
   -- after a split more surely comes about
-  pub lower-split : Sub (g .states) (lowerStates g) (lowerStates (splitGame g))
+  pub lower-split : Sub (g .states) (lowerStates g) (lowerStates (splitGame choose g))
   unfolding arenaOf splitGame hasMove
-  lower-split = lower-refine (arenaOf g) (blockAt g) (blockAt (splitGame g)) split-refines (huntingSide g) (preyStates g)
+  lower-split = lower-refine (arenaOf g) (blockAt g) (blockAt (splitGame choose g)) (split-refines choose g ok) (huntingSide g) (preyStates g)
 
   -- after a split less may come about
-  upper-split : Sub (g .states) (upperStates (splitGame g)) (upperStates g)
+  upper-split : Sub (g .states) (upperStates (splitGame choose g)) (upperStates g)
   unfolding arenaOf splitGame hasMove
-  upper-split = upper-refine (arenaOf g) (blockAt g) (blockAt (splitGame g)) split-refines (huntingSide g) (preyStates g)
+  upper-split = upper-refine (arenaOf g) (blockAt g) (blockAt (splitGame choose g)) (split-refines choose g ok) (huntingSide g) (preyStates g)
 
   -- if the hunting side surely has its way, it does after a split
-  pub caught-split : caught g ≡ true → caught (splitGame g) ≡ true
+  pub caught-split : caught g ≡ true → caught (splitGame choose g) ≡ true
   unfolding splitGame
-  caught-split = way-mono (goalOf (g .objective)) (g .states) (initials g) (lowerStates g) (lowerStates (splitGame g)) lower-split
+  caught-split = way-mono (goalOf (g .objective)) (g .states) (initials g) (lowerStates g) (lowerStates (splitGame choose g)) lower-split
 
   -- if the hunting side may have its way after a split, it may before
-  pub catchable-split : catchable (splitGame g) ≡ true → catchable g ≡ true
+  pub catchable-split : catchable (splitGame choose g) ≡ true → catchable g ≡ true
   unfolding splitGame
-  catchable-split = way-mono (goalOf (g .objective)) (g .states) (initials g) (upperStates (splitGame g)) (upperStates g) upper-split
+  catchable-split = way-mono (goalOf (g .objective)) (g .states) (initials g) (upperStates (splitGame choose g)) (upperStates g) upper-split
 
-module _ (g : Game) (ok : Accepted g) (j k : ℕ) (l : j ≤ k) where
+module _ (choose : Choice) (g : Game) (ok : AcceptedGame g) (j k : ℕ) (l : j ≤ k) where
   -- if the hunting side surely has its way, it does in all later rounds
-  pub caught-later : caught (round j g) ≡ true → caught (round k g) ≡ true
+  pub caught-later : caught (round choose j g) ≡ true → caught (round choose k g) ≡ true
   caught-later h =
-      le-ind (λ m. caught (round m g) ≡ true) h
-      (λ m _ x. rw (round-more m g) (caught-split (round m g) (round-accepted m g ok) x)) k l
+      le-ind (λ m. caught (round choose m g) ≡ true) h
+      (λ m _ x. rw (round-more choose m g) (caught-split choose (round choose m g) (round-accepted choose m g ok) x)) k l
 
   -- if the hunting side may have its way, it may in all earlier rounds
-  pub catchable-earlier : catchable (round k g) ≡ true → catchable (round j g) ≡ true
+  pub catchable-earlier : catchable (round choose k g) ≡ true → catchable (round choose j g) ≡ true
   catchable-earlier =
-      le-ind (λ m. catchable (round m g) ≡ true → catchable (round j g) ≡ true) (λ x. x)
-      (λ m _ back x. back (catchable-split (round m g) (round-accepted m g ok) (rw (round-more m g) at x))) k l
+      le-ind (λ m. catchable (round choose m g) ≡ true → catchable (round choose j g) ≡ true) (λ x. x)
+      (λ m _ back x. back (catchable-split choose (round choose m g) (round-accepted choose m g ok) (rw (round-more choose m g) at x))) k l
 
   -- a round that is not settled has none settled before it
-  pub open-earlier : caught (round k g) ≡ false → catchable (round k g) ≡ true → word (round j g) ≡ OPEN
+  pub open-earlier : caught (round choose k g) ≡ false → catchable (round choose k g) ≡ true → word (round choose j g) ≡ OPEN
   open-earlier lo up =
-      word-open (round j g)
-      (is-false (caught (round j g)) (λ x. true≢false (sym (caught-later (is-true (caught (round j g)) x)) ∙ lo)))
+      word-open (round choose j g)
+      (is-false (caught (round choose j g)) (λ x. true≢false (sym (caught-later (is-true (caught (round choose j g)) x)) ∙ lo)))
       (catchable-earlier up)
-
--- ## Growing on
-
-module _ (g : Game) (X : Set) (known : (s : ℕ) → s < g .states → X s ≡ lowerStates g s) where
-  -- what surely comes about holds the prey
-  prey-in : Sub (g .states) (preyStates g) X
-  prey-in s l x = subst T (sym (known s l)) (lower-target (arenaOf g) (blockAt g) (huntingSide g) (preyStates g) s x)
-
-  -- what surely comes about after a split grows on from what did before it
-  pub lower-grows-on : Accepted g → (s : ℕ) → s < g .states
-      → grow (insideStep (arenaOf g) (blockAt (splitGame g)) (huntingSide g)) X (g .states) s ≡ lowerStates (splitGame g) s
-  unfolding lower arenaOf splitGame hasMove
-  lower-grows-on ok =
-      grow-between (g .states) (insideStep (arenaOf g) (blockAt (splitGame g)) (huntingSide g))
-      (insideStep-mono (arenaOf g) (blockAt (splitGame g)) (huntingSide g)) (preyStates g) X prey-in
-      (λ s l x. lower-split g ok s l (subst T (known s l) x))
-
-  -- what may come about grows on from what surely does
-  pub upper-grows-on : (s : ℕ) → s < g .states
-      → grow (meetsStep (arenaOf g) (blockAt g) (huntingSide g)) X (g .states) s ≡ upperStates g s
-  unfolding upper arenaOf
-  upper-grows-on =
-      grow-between (g .states) (meetsStep (arenaOf g) (blockAt g) (huntingSide g))
-      (meetsStep-mono (arenaOf g) (blockAt g) (huntingSide g)) (preyStates g) X prey-in
-      (λ s l x. lower-upper (arenaOf g) (blockAt g) (huntingSide g) (preyStates g) s l (subst T (known s l) x))
 
 -- ## The border block without what may come about
 
 -- the numbers of the blocks that do not surely come about and meet the known set
 abbrev pub nextBlocks : Game → Set
-nextBlocks g s = isBlock (blockAt g) s && (not (lowerStates g s) && meets (g .states) (blockAt g) (knownStates g) s)
+nextBlocks g s = isBlock (blockAt g) s && (not (lowerStates g s) && meets (g .states) (blockAt g) (intoKnownStates g) s)
 
 module _ (g : Game) where
   -- they are the border blocks
@@ -235,7 +203,7 @@ module _ (g : Game) where
       let o = goalOf (g .objective) in
       rw (undecided-hunter (arenaOf g) (blockAt g) (targets g) o s)
       (ap (λ x. isBlock (blockAt g) s && x)
-      (drop (upperStates g s) (not (lowerStates g s)) (meets (g .states) (blockAt g) (knownStates g) s)
+      (drop (upperStates g s) (not (lowerStates g s)) (meets (g .states) (blockAt g) (intoKnownStates g) s)
       (λ m. meets-upper (arenaOf g) (blockAt g) (huntingSide g) (preyStates g) s l
       (subst (λ (C : Set). T (meets (g .states) (blockAt g) C s)) (known-hunter (arenaOf g) (blockAt g) (targets g) o) m))))
     where
@@ -246,42 +214,34 @@ module _ (g : Game) where
       drop false false false h = refl
 
   -- the lowest of them is the border block that 01 names
-  pub next-block : least (g .states) (nextBlocks g) ≡ borderOf g
+  pub next-block : least (g .states) (nextBlocks g) ≡ lowestFirst g
   unfolding borderBlock arenaOf
   next-block = least-cong (g .states) (nextBlocks g) _ next-is
 
-  -- where there is one, it is a block's number
-  pub border-name : borderOf g < g .states → blockAt g (borderOf g) ≡ borderOf g
-  border-name l =
-      let b = borderOf g in
-      eqb→eq (blockAt g b) b
-      (and-l (isBlock (blockAt g) b) (not (lowerStates g b) && meets (g .states) (blockAt g) (knownStates g) b)
-      (rw next-block at (least-hit (g .states) (nextBlocks g) (rw next-block l))))
-
   -- where there is none, the round is not open
-  pub no-next : Accepted g → some (g .states) (nextBlocks g) ≡ false → word g ≡ OPEN → ⊥
+  pub no-next : AcceptedGame g → some (g .states) (nextBlocks g) ≡ false → word g ≡ OPEN → ⊥
   unfolding arenaOf
   no-next ok none e =
-      let b = open-border-block g ok e in
+      let b = lowest-borders g ok e in
       fails (some (g .states) (nextBlocks g)) none
-      (some-intro (g .states) (nextBlocks g) (borderOf g) (b .state)
-      (rw (next-is (borderOf g) (b .state))
-      (and-intro (isBlock (blockAt g) (borderOf g)) (border (arenaOf g) (blockAt g) (goalOf (g .objective)) (targets g) (borderOf g))
-      (rw (eq-eqb (blockAt g (borderOf g)) (borderOf g) (b .name)) tt) (b .on-border))))
+      (some-intro (g .states) (nextBlocks g) (lowestFirst g) (b .state)
+      (rw (next-is (lowestFirst g) (b .state))
+      (and-intro (isBlock (blockAt g) (lowestFirst g)) (border (arenaOf g) (blockAt g) (goalOf (g .objective)) (targets g) (lowestFirst g))
+      (rw (eq-eqb (blockAt g (lowestFirst g)) (lowestFirst g) (b .name)) tt) (b .on-border))))
 
 -- ## The split, and how it is undone
 
-module _ (g : Game) (ok : Accepted g) (b : ℕ) (here : b ≡ borderOf g) (low : b < g .states) (c : ℕ)
-    (new : c ≡ least (g .states) (apart (blockAt g) b (knownStates g))) where
+module _ (g : Game) (ok : AcceptedGame g) (b : ℕ) (here : b ≡ lowestFirst g) (low : b < g .states) (c : ℕ)
+    (new : c ≡ least (g .states) (apart (blockAt g) b (intoKnownStates g))) where
   -- the number that the split takes is a block's
   own : blockAt g b ≡ b
-  own = rw here (border-name g (rw here at low))
+  own = rw here (lowest-found g (rw here at low) .name)
 
   -- the members of the border block that lie in the known set unlike its lowest get the number of the lowest of them
-  pub block-after : (s : ℕ) → s < g .states → blockAt (splitGame g) s ≡ cond (apart (blockAt g) b (knownStates g) s) c (blockAt g s)
-  block-after s l = split-block g s l ∙ rw (← here) (split-is (g .states) (blockAt g) (accepted-named g ok) b low own (knownStates g) c new s l)
+  pub block-after : (s : ℕ) → s < g .states → blockAt (splitGame lowestFirst g) s ≡ cond (apart (blockAt g) b (intoKnownStates g) s) c (blockAt g s)
+  block-after s l = split-block lowestFirst g s l ∙ rw (← here) (split-is (g .states) (blockAt g) (accepted-named g ok) b low own (intoKnownStates g) c new s l)
 
   -- the new number read as the old one gives the blocks before the split
-  pub block-before : (s : ℕ) → s < g .states → blockAt g s ≡ cond (eqb (blockAt (splitGame g) s) c) b (blockAt (splitGame g) s)
+  pub block-before : (s : ℕ) → s < g .states → blockAt g s ≡ cond (eqb (blockAt (splitGame lowestFirst g) s) c) b (blockAt (splitGame lowestFirst g) s)
   block-before s l =
-      rw (split-block g s l, ← here) (split-undone (g .states) (blockAt g) (accepted-named g ok) b low own (knownStates g) c new s l)
+      rw (split-block lowestFirst g s l, ← here) (split-undone (g .states) (blockAt g) (accepted-named g ok) b low own (intoKnownStates g) c new s l)

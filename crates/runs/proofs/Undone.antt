@@ -12,20 +12,20 @@ use lib.Dec.{eqb}
 use Rattle.arena.specs.Sets.{least}
 use Rattle.arena.proofs.Sets.{lt-suc-cases}
 use Rattle.game.specs.Game.{blockAt}
-use Rattle.game.specs.Accepted.{Accepted}
+use Rattle.game.specs.Accepted.{AcceptedGame}
 use Rattle.game.specs.declared.Game.{Game}
-use Rattle.blocks.proofs.Refine.{apart}
+use Rattle.blocks.specs.Parts.{apart}
 use Rattle.chains.specs.Lent.{Holds}
-use Rattle.runs.specs.Run.{knownStates, borderOf, splitGame, round}
+use Rattle.runs.specs.Run.{intoKnownStates, Choice, lowestFirst, splitGame, round}
 use Rattle.runs.specs.Log.{Log}
 use Rattle.runs.proofs.Runs.{round-accepted}
 use Rattle.runs.proofs.Settled.{round-more, block-before}
 
 -- each round has the states of the first
-pub round-states : (k : ℕ) (g : Game) → round k g .states ≡ g .states
+pub round-states : (choose : Choice) (k : ℕ) (g : Game) → round choose k g .states ≡ g .states
 unfolding round splitGame
-round-states zero g = refl
-round-states (suc k) g = round-states k (splitGame g)
+round-states choose zero g = refl
+round-states choose (suc k) g = round-states choose k (splitGame choose g)
 
 -- ## Splits are written down
 
@@ -36,7 +36,7 @@ log-none g n parents names = record { parents-long = zero-le; names-long = zero-
 module _ {g : Game} {n made : ℕ} {parents names : List ℕ} (log : Log g n made parents names)
     (parents-room : made < length parents) (names-room : made < length names) (b c : ℕ) where
   -- one split more: of block b, and the part without state b got the name c
-  pub log-more : ((s : ℕ) → s < n → blockAt (round made g) s ≡ cond (eqb (blockAt (round (suc made) g) s) c) b (blockAt (round (suc made) g) s))
+  pub log-more : ((s : ℕ) → s < n → blockAt (round lowestFirst made g) s ≡ cond (eqb (blockAt (round lowestFirst (suc made) g) s) c) b (blockAt (round lowestFirst (suc made) g) s))
       → Log g n (made + 1) (set parents made b) (set names made c)
   log-more back = record {
     parents-long = rw length-set (omega arith);
@@ -51,24 +51,24 @@ module _ {g : Game} {n made : ℕ} {parents names : List ℕ} (log : Log g n mad
   }
 
   -- the split of the border block of an accepted game's round
-  pub log-split : Accepted g → g .states ≡ n → b ≡ borderOf (round made g) → b < n
-      → c ≡ least n (apart (blockAt (round made g)) b (knownStates (round made g)))
+  pub log-split : AcceptedGame g → g .states ≡ n → b ≡ lowestFirst (round lowestFirst made g) → b < n
+      → c ≡ least n (apart (blockAt (round lowestFirst made g)) b (intoKnownStates (round lowestFirst made g)))
       → Log g n (made + 1) (set parents made b) (set names made c)
   log-split ok size here low new =
-      let present = round made g in
-      let same : present .states ≡ n = round-states made g ∙ size in
+      let present = round lowestFirst made g in
+      let same : present .states ≡ n = round-states lowestFirst made g ∙ size in
       log-more
-      (λ s l. rw (round-more made g)
-      (block-before present (round-accepted made g ok) b here (rw same low) c
-      (new ∙ ap (λ (m : ℕ). least m (apart (blockAt present) b (knownStates present))) (sym same)) s (rw same l)))
+      (λ s l. rw (round-more lowestFirst made g)
+      (block-before present (round-accepted lowestFirst made g ok) b here (rw same low) c
+      (new ∙ ap (λ (m : ℕ). least m (apart (blockAt present) b (intoKnownStates present))) (sym same)) s (rw same l)))
 
 -- ## Splits are undone
 
 -- the blocks of round i, by the log, from those of round k, the one after it
 pub log-undo : {g : Game} {n made : ℕ} {parents names : List ℕ} → Log g n made parents names → (i k : ℕ) → k ≡ suc i → i < made
-    → {later earlier : List ℕ} → Holds n later (blockAt (round k g))
+    → {later earlier : List ℕ} → Holds n later (blockAt (round lowestFirst k g))
     → Holds n earlier (λ s. cond (eqb (getD later s 0) (getD names i 0)) (getD parents i 0) (getD later s 0))
-    → Holds n earlier (blockAt (round i g))
+    → Holds n earlier (blockAt (round lowestFirst i g))
 log-undo log i k e l was is = record {
   long = is .long;
   cell = λ s m. is .cell s m ∙ rw (was .cell s m, e) (sym (log .undo i l s m));

@@ -1,4 +1,4 @@
 pub mod Run
-pub mod Work
+pub mod Hunting
 pub mod Log
 pub mod First

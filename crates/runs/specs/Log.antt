@@ -7,7 +7,7 @@ use lib.ListN.{length, getD}
 use lib.Dec.{eqb}
 use Rattle.game.specs.Game.{blockAt}
 use Rattle.game.specs.declared.Game.{Game}
-use Rattle.runs.specs.Run.{round}
+use Rattle.runs.specs.Run.{lowestFirst, round}
 
 -- the splits made: split i was of block parents[i], and the part without that state got the name names[i]
 pub record Log (g : Game) (n made : ℕ) (parents names : List ℕ) : Type 0 where
@@ -15,4 +15,4 @@ pub record Log (g : Game) (n made : ℕ) (parents names : List ℕ) : Type 0 whe
   pub names-long : made ≤ length names
   -- the name read as its parent gives the blocks before the split
   pub undo : (i : ℕ) → i < made → (s : ℕ) → s < n
-      → blockAt (round i g) s ≡ cond (eqb (blockAt (round (suc i) g) s) (getD names i 0)) (getD parents i 0) (blockAt (round (suc i) g) s)
+      → blockAt (round lowestFirst i g) s ≡ cond (eqb (blockAt (round lowestFirst (suc i) g) s) (getD names i 0)) (getD parents i 0) (blockAt (round lowestFirst (suc i) g) s)

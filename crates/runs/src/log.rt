@@ -8,7 +8,7 @@ ghost use Rattle.game.specs.Limits.{maxStates};
 ghost use Rattle.game.specs.Game.{blockAt};
 ghost use Rattle.game.specs.declared.Game.{Game};
 ghost use Rattle.chains.specs.Lent.{Holds};
-ghost use Rattle.runs.specs.Run.{round};
+ghost use Rattle.runs.specs.Run.{lowestFirst, round};
 ghost use Rattle.runs.specs.Log.{Log};
 
 // The block before a split: its parent for one that the split named, and itself for any other.
@@ -42,8 +42,8 @@ pub fn earlier_blocks(
     names: &[u16],
     block: &mut [u16],
 )
-    requires { ⌜ ((g : Game) × (made : ℕ) × Log g n made (now parents) (now names) × (later ≤ made) × (earlier ≤ later) × Holds n (now block) (blockAt (round later g))) × (n ≤ maxStates) ⌝ }
-    ensures { λ _. ⌜ ((g : Game) (made : ℕ) → Log g n made (now (parents .entry)) (now (names .entry)) → later ≤ made → Holds n (now (block .entry)) (blockAt (round later g)) → Holds n (now (block .exit)) (blockAt (round earlier g))) ⌝ }
+    requires { ⌜ ((g : Game) × (made : ℕ) × Log g n made (now parents) (now names) × (later ≤ made) × (earlier ≤ later) × Holds n (now block) (blockAt (round lowestFirst later g))) × (n ≤ maxStates) ⌝ }
+    ensures { λ _. ⌜ ((g : Game) (made : ℕ) → Log g n made (now (parents .entry)) (now (names .entry)) → later ≤ made → Holds n (now (block .entry)) (blockAt (round lowestFirst later g)) → Holds n (now (block .exit)) (blockAt (round lowestFirst earlier g))) ⌝ }
 {
     let mut k = later;
     while k > earlier {

@@ -2,14 +2,14 @@
 use game::has_mark;
 ghost use mathlib.Core.Path.{_≡_};
 ghost use mathlib.Core.Bool.{not, _&&_, Bool·beq};
-ghost use Prim.Native.Nat.{ℕ, _≤_};
+ghost use Prim.Native.Nat.{_≤_};
 ghost use lib.ListN.{length, getD};
 ghost use lib.Dec.{eqb};
 ghost use Rattle.game.specs.Limits.{maxStates};
 ghost use Rattle.game.specs.Game.{marked};
-ghost use Rattle.game.specs.Arena.{goalOf};
+ghost use Rattle.game.specs.Published.{goalOf};
 ghost use Rattle.growth.specs.Stamp.{isIn};
-ghost use Rattle.runs.specs.Work.{hasWay};
+ghost use Rattle.runs.specs.Hunting.{hasWay};
 
 // A start that decides: one inside the row for reach, and one outside it for stay.
 fn decides(reach: bool, marks: u8, pass: u16) -> bool

@@ -14,9 +14,10 @@ use Rattle.arena.proofs.Sets.{lt-suc-cases, some-intro, some-elim, meets-in, me
 use Rattle.arena.proofs.Loops.{le-or-lt}
 use Rattle.arena.proofs.Least.{least-unique}
 use Rattle.game.specs.Game.{turnAt, fromAt, toAt, hasMove}
-use Rattle.game.specs.Accepted.{Accepted}
+use Rattle.game.specs.Ranged.{Ranged}
 use Rattle.game.specs.declared.Game.{Game}
-use Rattle.solver.specs.Plan.{noMove, successors}
+use Rattle.arena.specs.Plan.{noMove}
+use Rattle.solver.specs.Rules.{successors}
 use Rattle.solver.specs.Work.{goodMove, lowerOf, lowestGood}
 
 module _ (side : ℕ) (chase : Bool) (turn from to row : ℕ → ℕ) where
@@ -48,7 +49,7 @@ module _ (side : ℕ) (chase : Bool) (turn from to row : ℕ → ℕ) where
 
 -- ## The walk finds the lowest successor that is good
 
-module _ (g : Game) (ok : Accepted g) (side : ℕ) (chase : Bool) (row : ℕ → ℕ) (s : ℕ) where
+module _ (g : Game) (ok : Ranged g) (side : ℕ) (chase : Bool) (row : ℕ → ℕ) (s : ℕ) where
   -- move j is a good one of s, and s is the side's
   good : ℕ → Bool
   good j = eqb (fromAt g j) s && (eqb (turnAt g s) side && goodMove chase (row s) (row (toAt g j)))

@@ -1,5 +1,6 @@
 pub mod Marks
 pub mod Advice
+pub mod Rules
 pub mod Plans
-pub mod Answers
+pub mod HandingBack
 pub mod Rowed

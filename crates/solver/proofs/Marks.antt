@@ -8,23 +8,24 @@ use lib.ListN.{getD}
 use lib.Dec.{eqb, leb}
 use borrow.Author.Tests.{eq-eqb, ne-eqb}
 use Rattle.arena.specs.Sets.{Set, some, least}
-use Rattle.arena.specs.Game.{Game as Arena}
+use Rattle.arena.specs.Arena.{Arena}
 use Rattle.arena.specs.Win.{Goal, toReach, toStay}
 use Rattle.arena.proofs.Tests.{not-not, is-true, holds}
 use Rattle.arena.proofs.Least.{least-none, least-done, least-cong}
 use Rattle.game.specs.Game.{stateNo, marksAt, blockAt, initials, targets}
-use Rattle.game.specs.Arena.{goalOf, arenaOf}
+use Rattle.game.specs.Published.{goalOf, arenaOf}
 use Rattle.game.specs.declared.Game.{Game}
-use Rattle.blocks.specs.Round.{sure, possible}
-use Rattle.blocks.specs.Hunt.{hunter, prey, insideStep, lower, upper}
+use Rattle.blocks.specs.Round.{sure, possible, insideStep}
+use Rattle.blocks.specs.Hunt.{hunter, prey, lower, upper}
 use Rattle.blocks.proofs.Sound.{sure-possible}
 use Rattle.blocks.proofs.Hunt.{lower-upper, sure-reach, possible-reach, sure-stay, possible-stay}
 use Rattle.growth.specs.Stamp.{isIn}
 use Rattle.growth.proofs.Stamp.{stamp-grow}
 use Rattle.runs.specs.Run.{sureStates, possibleStates, YES, NO, OPEN, word, namedStart}
-use Rattle.runs.specs.Work.{huntingSide, preyStates, lowerStates, upperStates}
-use Rattle.solver.specs.Plan.{mark}
-use Rattle.solver.specs.Work.{markNo, passOf, Worked, lowestStart, decisionBy, decisionOf}
+use Rattle.runs.specs.Hunting.{huntingSide, preyStates, lowerStates, upperStates}
+use Rattle.solver.specs.Rules.{mark}
+use Rattle.solver.specs.Work.{markNo, passOf, Worked, lowestStart, decisionBy}
+use Rattle.solver.specs.Solve.{decisionOf}
 use Rattle.solver.specs.declared.Decision.the-variants.{Yes, No, Open}
 
 -- ## Marks

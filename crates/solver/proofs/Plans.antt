@@ -1,4 +1,4 @@
--- The plan that the code works out is the one of 01's four rules.
+-- The plan that the code works out is the rule of the side that wins.
 use mathlib.Core.Path.{_≡_, refl, sym, ap, ap₂, _∙_, fun-ext}
 use mathlib.Core.Bool.{Bool, true, false, not, _&&_, cond, and-false, true≢false}
 use mathlib.Core.List.{List}
@@ -10,7 +10,7 @@ use lib.ListN.{length, getD}
 use lib.Dec.{T, eqb, ltb, eqb·suc-zero}
 use borrow.Author.Tests.{le-ltb}
 use Rattle.arena.specs.Sets.{Set, compl, some, least}
-use Rattle.arena.specs.Game.{Side, one, two, other, same, mine}
+use Rattle.arena.specs.Arena.{Side, one, two, other, same, mine}
 use Rattle.arena.specs.Win.{Goal, toReach, toStay}
 use Rattle.arena.specs.Passes.{grow}
 use Rattle.arena.proofs.Tests.{not-not, holds, fails}
@@ -18,76 +18,23 @@ use Rattle.arena.proofs.Loops.{le-or-lt, some-cong, some-none}
 use Rattle.arena.proofs.Least.{least-cong}
 use Rattle.arena.proofs.Passes.{rank-le}
 use Rattle.game.specs.Game.{knownTurn, blockAt, turnAt, fromAt, toAt, targets, hasMove}
-use Rattle.game.specs.Arena.{sideOf, goalOf, arenaOf}
+use Rattle.game.specs.Published.{sideOf, goalOf, arenaOf}
 use Rattle.game.specs.declared.StateNo.{StateNo}
 use Rattle.game.specs.declared.Game.{Game}
 use Rattle.game.proofs.Turns.{same-turn, other-turn}
-use Rattle.blocks.specs.Round.{sure, possible}
-use Rattle.blocks.specs.Hunt.{hunter, insideStep, lower}
-use Rattle.blocks.proofs.Hunt.{sure-reach, possible-reach, sure-stay, never-stay, entered-rank, left-rank}
+use Rattle.blocks.specs.Round.{insideStep}
+use Rattle.blocks.specs.Hunt.{hunter, lower}
 use Rattle.growth.proofs.Stamp.{stamp-rank}
 use Rattle.runs.specs.Run.{Word, YES, NO, OPEN, word}
-use Rattle.solver.specs.Plan.{noMove, successors, advice, rule, planned}
-use Rattle.runs.specs.Work.{huntingSide, preyStates, lowerStates, upperStates}
-use Rattle.solver.specs.Work.{goodMove, lowestGood, Walk, passOf, Worked, Planning, chaseRank, chaseRule, fleeRule, winnerRule, decisionOf}
+use Rattle.arena.specs.Plan.{noMove}
+use Rattle.solver.specs.Rules.{successors, advice, rule, planned}
+use Rattle.runs.specs.Hunting.{huntingSide, preyStates, lowerStates, upperStates}
+use Rattle.solver.specs.Work.{goodMove, lowestGood, Walk, passOf, Worked, Planning, chaseRank, chaseRule, fleeRule, winnerRule}
+use Rattle.solver.specs.Solve.{decisionOf}
 use Rattle.solver.specs.declared.Decision.{Decision}
 use Rattle.solver.specs.declared.Decision.the-variants.{Yes, No, Open}
 use Rattle.solver.proofs.Advice.{good-alike, walked}
 use Rattle.solver.proofs.Marks.{out-upper}
-
--- ## 01's rules in the hunter's view
-
-module _ (g : Game) (s : ℕ) where
-  -- reach: side 1 hunts, and side 2 is hunted
-  module _ (reaching : goalOf (g .objective) ≡ toReach) where
-    yes-reach : rule YES toReach g s ≡ chaseRule g toReach s
-    unfolding rule chaseRule arenaOf
-    yes-reach =
-        ap₂ (λ (S X : Set). advice g one (λ t. S t && not (targets g t)) X s)
-        (ap (λ (o : Goal). sure (arenaOf g) (blockAt g) o (targets g)) reaching ∙ sure-reach (arenaOf g) (blockAt g) (targets g))
-        (fun-ext (λ t. ap₂ ltb (entered-rank (arenaOf g) (blockAt g) (targets g) t) (entered-rank (arenaOf g) (blockAt g) (targets g) s)))
-
-    no-reach : rule NO toReach g s ≡ fleeRule g toReach s
-    unfolding rule fleeRule
-    no-reach =
-        ap (λ (P : Set). advice g two (compl P) (compl P) s)
-        (ap (λ (o : Goal). possible (arenaOf g) (blockAt g) o (targets g)) reaching ∙ possible-reach (arenaOf g) (blockAt g) (targets g))
-
-  -- stay: side 2 hunts, and side 1 is hunted
-  module _ (staying : goalOf (g .objective) ≡ toStay) where
-    yes-stay : rule YES toStay g s ≡ fleeRule g toStay s
-    unfolding rule fleeRule
-    yes-stay =
-        ap (λ (S : Set). advice g one S S s)
-        (ap (λ (o : Goal). sure (arenaOf g) (blockAt g) o (targets g)) staying ∙ sure-stay (arenaOf g) (blockAt g) (targets g))
-
-    no-stay : rule NO toStay g s ≡ chaseRule g toStay s
-    unfolding rule chaseRule arenaOf
-    no-stay =
-        ap₂ (λ (N X : Set). advice g two (λ t. N t && targets g t) X s)
-        (ap (λ (o : Goal). compl (possible (arenaOf g) (blockAt g) o (targets g))) staying ∙ never-stay (arenaOf g) (blockAt g) (targets g))
-        (fun-ext (λ t. ap₂ ltb (left-rank (arenaOf g) (blockAt g) (targets g) t) (left-rank (arenaOf g) (blockAt g) (targets g) s)))
-        ∙ ap (λ (B : Set). advice g two (λ t. lower (arenaOf g) (blockAt g) two (compl (targets g)) t && B t) (λ t. ltb (suc (chaseRank g toStay t)) (suc (chaseRank g toStay s))) s)
-        (fun-ext (λ t. sym (not-not (targets g t))))
-
--- a game's goal is reach or stay
-by-goal : (P : Goal → Type 0) (g : Game) → (goalOf (g .objective) ≡ toReach → P toReach) → (goalOf (g .objective) ≡ toStay → P toStay) → P (goalOf (g .objective))
-by-goal P g f h = go (goalOf (g .objective)) refl
-  where
-    go : (o : Goal) → goalOf (g .objective) ≡ o → P o
-    go toReach e = f e
-    go toStay e = h e
-
--- the plan of a decided round is the rule of the side that wins
-pub plan-yes : (g : Game) (s : ℕ) → winnerRule g one s ≡ planned YES g s
-plan-yes g s =
-    by-goal (λ o. cond (same one (hunter o)) (chaseRule g o s) (fleeRule g o s) ≡ rule YES o g s) g
-    (λ e. sym (yes-reach g s e)) (λ e. sym (yes-stay g s e))
-
-pub plan-no : (g : Game) (s : ℕ) → winnerRule g two s ≡ planned NO g s
-plan-no g s =
-    by-goal (λ o. cond (same two (hunter o)) (chaseRule g o s) (fleeRule g o s) ≡ rule NO o g s) g
-    (λ e. sym (no-reach g s e)) (λ e. sym (no-stay g s e))
 
 -- ## A rule by good moves
 
@@ -190,13 +137,13 @@ module _ {g : Game} {low up : List ℕ} (w : Worked g low up) (side : ℕ) (know
   -- whose turn it is, by the numbers
   turn-told : mine (arenaOf g) (sideOf side) s ≡ eqb (turnAt g s) side
   unfolding arenaOf
-  turn-told = same-turn side (turnAt g s) known (w .accepted .turn-known s l)
+  turn-told = same-turn side (turnAt g s) known (w .ranged .turn-known s l)
 
   chased : sideOf side ≡ huntingSide g → lowestGood side true (turnAt g) (fromAt g) (toAt g) (λ t. getD low t 0) (g .moves) s ≡ chaseRule g (goalOf (g .objective)) s
   unfolding chaseRule
   chased e =
       let Y : Set = λ t. goodMove true (getD low s 0) (getD low t 0) in
-      walked g (w .accepted) side true (λ t. getD low t 0) s Y (λ t. refl)
+      walked g (w .ranged) side true (λ t. getD low t 0) s Y (λ t. refl)
       ∙ ap (λ (b : Bool). cond (b && some (g .states) (successors g s Y)) (least (g .states) (successors g s Y)) noMove) (sym turn-told)
       ∙ sym (ap (λ (i : Side). advice g i (λ t. lowerStates g t && not (preyStates g t)) (λ t. ltb (suc (chaseRank g (goalOf (g .objective)) t)) (suc (chaseRank g (goalOf (g .objective)) s))) s) (sym e)
       ∙ advice-as g (sideOf side) (λ t. lowerStates g t && not (preyStates g t)) _ Y s (λ h t m. chase-told w s t l m h) (λ h t m. chase-idle w s t l h))
@@ -205,7 +152,7 @@ module _ {g : Game} {low up : List ℕ} (w : Worked g low up) (side : ℕ) (know
   unfolding fleeRule
   fled e =
       let Y : Set = λ t. goodMove false (getD up s 0) (getD up t 0) in
-      walked g (w .accepted) side false (λ t. getD up t 0) s Y (λ t. refl)
+      walked g (w .ranged) side false (λ t. getD up t 0) s Y (λ t. refl)
       ∙ ap (λ (b : Bool). cond (b && some (g .states) (successors g s Y)) (least (g .states) (successors g s Y)) noMove) (sym turn-told)
       ∙ sym (ap (λ (i : Side). advice g i (compl (upperStates g)) (compl (upperStates g)) s) (sym e)
       ∙ advice-as g (sideOf side) (compl (upperStates g)) (compl (upperStates g)) Y s
@@ -216,9 +163,9 @@ module _ {g : Game} {m objective : ℕ} {turn from to low up : List ℕ} (p : Pl
   -- a walk over the moves goes through places that there are
   pub walk-safe : (row : List ℕ) → g .states ≤ length row → Walk (g .states) m turn from to row
   walk-safe row long = record {
-    few-states = p .worked .accepted .few-states;
-    froms = record { long = p .from-is .long; below = λ k l. rw (p .from-is .cell k l) (p .worked .accepted .from-state k (omega (arith, p .moves-is))) };
-    tos = record { long = p .to-is .long; below = λ k l. rw (p .to-is .cell k l) (p .worked .accepted .to-state k (omega (arith, p .moves-is))) };
+    few-states = p .worked .ranged .few-states;
+    froms = record { long = p .from-is .long; below = λ k l. rw (p .from-is .cell k l) (p .worked .ranged .from-state k (omega (arith, p .moves-is))) };
+    tos = record { long = p .to-is .long; below = λ k l. rw (p .to-is .cell k l) (p .worked .ranged .to-state k (omega (arith, p .moves-is))) };
     turn-long = p .turn-is .long;
     row-long = long;
   }
@@ -263,28 +210,17 @@ hunted i hunts side e p q ne = other-turn hunts side p q ne ∙ ap other e
 
 -- ## The plan of a decision
 
-module _ (g : Game) (s : ℕ) (d : Decision) (said : d ≡ decisionOf (word g) g) where
-  pub planned-yes : (v : StateNo) → d ≡ Yes v → winnerRule g one s ≡ planned (word g) g s
-  planned-yes v e = plan-yes g s ∙ ap (λ (w : Word). planned w g s) (sym (go (word g) (sym said ∙ e)))
-    where
-      go : (w : Word) → decisionOf w g ≡ Yes v → w ≡ YES
-      go YES h = refl
-      go NO h = let z : _≡_ {A = ℕ} 0 1 = cc in absurd (omega arith)
-      go OPEN h = let z : _≡_ {A = ℕ} 0 1 = cc in absurd (omega arith)
+-- the word of a decision
+abbrev pub wordOf : Decision → Word
+wordOf (Yes s) = YES
+wordOf No = NO
+wordOf Open = OPEN
 
-  pub planned-no : d ≡ No → winnerRule g two s ≡ planned (word g) g s
-  planned-no e = plan-no g s ∙ ap (λ (w : Word). planned w g s) (sym (go (word g) (sym said ∙ e)))
-    where
-      go : (w : Word) → decisionOf w g ≡ No → w ≡ NO
-      go YES h = let z : _≡_ {A = ℕ} 0 1 = cc in absurd (omega arith)
-      go NO h = refl
-      go OPEN h = let z : _≡_ {A = ℕ} 0 1 = cc in absurd (omega arith)
-
-  pub planned-open : d ≡ Open → noMove ≡ planned (word g) g s
-  unfolding rule
-  planned-open e = ap (λ (w : Word). planned w g s) (sym (go (word g) (sym said ∙ e)))
-    where
-      go : (w : Word) → decisionOf w g ≡ Open → w ≡ OPEN
-      go YES h = let z : _≡_ {A = ℕ} 0 1 = cc in absurd (omega arith)
-      go NO h = let z : _≡_ {A = ℕ} 0 1 = cc in absurd (omega arith)
-      go OPEN h = refl
+-- the plan of a game's decision, known by its word
+pub planned-by : (g : Game) (s : ℕ) (d : Decision) → d ≡ decisionOf (word g) g → (w : Word) → wordOf d ≡ w → planned w g s ≡ planned (word g) g s
+planned-by g s d said w e = ap (λ (w : Word). planned w g s) (sym e ∙ ap wordOf said ∙ go (word g))
+  where
+    go : (w : Word) → wordOf (decisionOf w g) ≡ w
+    go YES = refl
+    go NO = refl
+    go OPEN = refl

@@ -10,24 +10,24 @@ use Rattle.arena.specs.Sets.{Set, bit}
 use Rattle.game.specs.Limits.{maxStates, maxMoves}
 use Rattle.game.specs.Rows.{fill}
 use Rattle.game.specs.Game.{knownTurn, marked, turnAt, blockAt, fromAt}
-use Rattle.game.specs.Arena.{sideOf, goalOf}
+use Rattle.game.specs.Published.{sideOf, goalOf}
 use Rattle.file.specs.Layout.{states, moves, objective as objectiveOf, turn as turnOf, marks as marksOf, block as blockOf, from as fromOf, to as toOf}
 use Rattle.file.specs.Refusals.{refusal}
 use Rattle.file.proofs.Sound.{accepted-sound}
 use Rattle.decoding.specs.Decode.{gameOf}
-use Rattle.decoding.proofs.Rows.{turn-is, marks-is, block-is, from-is, to-is}
+use Rattle.decoding.proofs.GameRows.{turn-is, marks-is, block-is, from-is, to-is}
 use Rattle.decoding.proofs.Accepted.{accepted-game}
+use Rattle.game.proofs.Ranged.{accepted-ranged}
 use Rattle.game.specs.declared.Game.{Game}
 use Rattle.blocks.specs.Hunt.{hunter, prey}
 use Rattle.arena.specs.Win.{Goal, toReach, toStay}
 use Rattle.chains.specs.Lent.{Holds, Keys, manyOf, Linked, needOf}
 use Rattle.chains.proofs.Counts.{holds-cong}
 use Rattle.rounds.specs.Search.{firstMove}
-use Rattle.rounds.proofs.Moves.{first-held}
-use Rattle.runs.specs.Run.{word, run}
-use Rattle.rows.specs.Rows.{Present, Final}
-use Rattle.solver.specs.Plan.{mark, planned}
-use Rattle.solver.specs.Solve.{said}
+use Rattle.rounds.proofs.FirstMoves.{first-held}
+use Rattle.runs.specs.Run.{lowestFirst, word, run}
+use Rattle.rows.specs.RoundRows.{Present, Final}
+use Rattle.solver.specs.Solve.{decisionOf, said, Rows}
 use Rattle.solver.specs.Work.{Finished, passOf, Apart, HandedBack}
 use Rattle.solver.specs.declared.Verdict.{Verdict}
 
@@ -97,7 +97,7 @@ module _ {g : Game} {side n m objective : ℕ} {turn starts from to prey block :
 -- what is left of a run is ready to be handed back
 pub finished : {g : Game} {side n m objective allowance : ℕ} {turn starts from to last before need first prey block : List ℕ} {splits : ℕ} {lower upper : List ℕ}
     → Final g side n m objective allowance turn starts from to last before need first prey block splits lower upper
-    → Finished (run allowance g .last) n m objective turn starts from to block lower upper
+    → Finished (run lowestFirst allowance g .last) n m objective turn starts from to block lower upper
 unfolding passOf
 finished {g} {n = n} {allowance = allowance} {lower = lower} {upper = upper} f = record {
   states-is = f .present .states-is;
@@ -109,7 +109,7 @@ finished {g} {n = n} {allowance = allowance} {lower = lower} {upper = upper} f =
   to-is = f .present .to-is;
   block-is = f .present .block-is;
   worked = record {
-    accepted = f .present .accepted;
+    ranged = accepted-ranged (f .present .accepted);
     lower-long = omega (arith, f .numbered .long, f .present .states-is);
     upper-long = omega (arith, f .upper-in .long, f .present .states-is);
     lower-is = f .numbered .pass-is;
@@ -120,15 +120,10 @@ finished {g} {n = n} {allowance = allowance} {lower = lower} {upper = upper} f =
 -- what was handed back of the last game is what is to be handed back of the run
 pub handed-back : {g : Game} {side n m objective allowance : ℕ} {turn starts from to last before need first prey block : List ℕ} {splits : ℕ} {lower upper : List ℕ}
     → Final g side n m objective allowance turn starts from to last before need first prey block splits lower upper
-    → {verdict : Verdict} {marks₀ marks blocks₀ blocks moves₀ moves : List ℕ} → verdict ≡ said (word (run allowance g .last)) (run allowance g .last) splits
-    → marks ≡ fill (run allowance g .last .states) (mark (run allowance g .last)) marks₀ → blocks ≡ fill (run allowance g .last .states) (blockAt (run allowance g .last)) blocks₀
-    → moves ≡ fill (run allowance g .last .states) (planned (word (run allowance g .last)) (run allowance g .last)) moves₀ → HandedBack g allowance verdict marks₀ marks blocks₀ blocks moves₀ moves
-handed-back {g} {allowance = allowance} f v m b p = record {
-  verdict-is = v ∙ ap (said (word (run allowance g .last)) (run allowance g .last)) (f .splits-is);
-  marks-are = m;
-  blocks-are = b;
-  moves-are = p;
-}
+    → (lent : Rows) {verdict : Verdict} {rows : Rows} → HandedBack (record { splits = splits; last = run lowestFirst allowance g .last }) lent verdict rows
+    → HandedBack (run lowestFirst allowance g) lent verdict rows
+handed-back {g} {allowance = allowance} f lent back =
+    let h = run lowestFirst allowance g .last in (back .0 ∙ ap (said (decisionOf (word h) h)) (f .splits-is), back .1)
 
 -- an accepted file has no more states and moves than there are places
 pub few-states-of : (f : List ℕ) → refusal f ≡ 0 → {n : ℕ} → n ≡ states f → n ≤ maxStates

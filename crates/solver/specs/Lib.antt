@@ -1,3 +1,3 @@
-pub mod Plan
+pub mod Rules
 pub mod Solve
 pub mod Work

@@ -7,26 +7,27 @@ use mathlib.Core.List.{List}
 use lib.ListN.{length, getD}
 use lib.Dec.{eqb, leb, ltb, T}
 use Rattle.arena.specs.Sets.{compl, least, bit}
-use Rattle.arena.specs.Game.{Side, other, same}
+use Rattle.arena.specs.Arena.{Side, other, same}
 use Rattle.arena.specs.Win.{Goal}
 use Rattle.arena.specs.Passes.{rank}
+use Rattle.arena.specs.Plan.{noMove}
 use Rattle.game.specs.Limits.{maxStates}
 use Rattle.game.specs.Game.{stateNo, marked, turnAt, marksAt, blockAt, fromAt, toAt, targets, knownTurn}
-use Rattle.game.specs.Arena.{goalOf, arenaOf, sideOf}
-use Rattle.game.specs.Accepted.{Accepted}
+use Rattle.game.specs.Published.{goalOf, arenaOf, sideOf}
+use Rattle.game.specs.Accepted.{AcceptedGame}
+use Rattle.game.specs.Ranged.{Ranged}
 use Rattle.game.specs.declared.Game.{Game}
-use Rattle.blocks.specs.Hunt.{hunter, prey, insideStep, lower, upper}
+use Rattle.blocks.specs.Round.{insideStep}
+use Rattle.blocks.specs.Hunt.{hunter, prey, lower, upper}
 use Rattle.growth.specs.Stamp.{isIn, stamp}
 use Rattle.chains.specs.Lent.{Holds, Keys}
-use Rattle.runs.specs.Work.{huntingSide, preyStates, upperStates}
-use Rattle.runs.specs.Run.{Word, YES, NO, OPEN, namedStart, word, run}
-use Rattle.solver.specs.Plan.{noMove, advice, mark, planned}
+use Rattle.runs.specs.Hunting.{huntingSide, preyStates, upperStates}
+use Rattle.runs.specs.Run.{Run}
+use Rattle.solver.specs.Rules.{advice}
 use Rattle.solver.specs.declared.Decision.{Decision}
 use Rattle.solver.specs.declared.Decision.the-variants.{Yes, No, Open}
 use Rattle.solver.specs.declared.Verdict.{Verdict}
-use Rattle.solver.specs.declared.Verdict.the-variants.{Yes as VerdictYes, No as VerdictNo, Open as VerdictOpen}
-use Rattle.solver.specs.Solve.{said}
-use Rattle.game.specs.Rows.{fill}
+use Rattle.solver.specs.Solve.{Rows, verdictOf, writtenRows}
 
 -- a mark by the passes of the side that hunts: side 1 if the objective is reach
 unfoldable pub markNo : ℕ → ℕ → ℕ → ℕ
@@ -63,9 +64,9 @@ pub record Walk (n m : ℕ) (turn from to row : List ℕ) : Type 0 where
 unfoldable pub passOf : Game → ℕ → ℕ
 passOf g s = stamp (insideStep (arenaOf g) (blockAt g) (huntingSide g)) (preyStates g) (g .states) s
 
--- the rows of a round that is worked out for an accepted game: the passes of what is surely brought about, and what may be
+-- the rows of a round that is worked out: the passes of what is surely brought about, and what may be
 pub record Worked (g : Game) (low up : List ℕ) : Type 0 where
-  pub accepted : Accepted g
+  pub ranged : Ranged g
   pub lower-long : g .states ≤ length low
   pub upper-long : g .states ≤ length up
   pub lower-is : (s : ℕ) → s < g .states → getD low s 0 ≡ passOf g s
@@ -92,18 +93,6 @@ unfoldable pub decisionBy : ℕ → List ℕ → List ℕ → Decision
 decisionBy n starts marks =
     cond (eqb (lowestStart n starts marks 1) n) No
     (cond (eqb (lowestStart n starts marks 2) n) Open (Yes (stateNo (lowestStart n starts marks 2))))
-
--- what a round says of its game, by its word
-abbrev pub decisionOf : Word → Game → Decision
-decisionOf YES g = Yes (stateNo (namedStart g))
-decisionOf NO g = No
-decisionOf OPEN g = Open
-
--- the verdict of a decision after so many splits
-abbrev pub saidBy : Decision → ℕ → Verdict
-saidBy (Yes s) splits = VerdictYes s splits
-saidBy No splits = VerdictNo splits
-saidBy Open splits = VerdictOpen splits
 
 -- ## The plan at work
 
@@ -142,7 +131,7 @@ winnerRule g i s = cond (same i (huntingSide g)) (chaseRule g (goalOf (g .object
 
 -- a game taken apart: the side that hunts, the counts, and rows of plain numbers for turns, marks, moves, prey and blocks
 pub record Apart (g : Game) (side n m objective : ℕ) (turn starts from to prey block : List ℕ) : Type 0 where
-  pub accepted : Accepted g
+  pub accepted : AcceptedGame g
   pub known : T (knownTurn side)
   pub hunts : sideOf side ≡ huntingSide g
   pub states-is : g .states ≡ n
@@ -155,9 +144,6 @@ pub record Apart (g : Game) (side n m objective : ℕ) (turn starts from to prey
   pub prey-is : Holds n prey (λ s. bit (preyStates g s))
   pub block-is : Holds n block (blockAt g)
 
--- what is handed back of a run of g: the verdict, and the three rows, of which the first places are written
-pub record HandedBack (g : Game) (allowance : ℕ) (verdict : Verdict) (marks₀ marks blocks₀ blocks moves₀ moves : List ℕ) : Type 0 where
-  pub verdict-is : verdict ≡ said (word (run allowance g .last)) (run allowance g .last) (run allowance g .splits)
-  pub marks-are : marks ≡ fill (run allowance g .last .states) (mark (run allowance g .last)) marks₀
-  pub blocks-are : blocks ≡ fill (run allowance g .last .states) (blockAt (run allowance g .last)) blocks₀
-  pub moves-are : moves ≡ fill (run allowance g .last .states) (planned (word (run allowance g .last)) (run allowance g .last)) moves₀
+-- what is handed back of a run: its verdict, and the three rows, of which the first places are written
+abbrev pub HandedBack : Run → Rows → Verdict → Rows → Type 0
+HandedBack r lent verdict rows = (verdict ≡ verdictOf r) × (rows ≡ writtenRows (r .last) lent)

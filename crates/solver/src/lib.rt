@@ -1,20 +1,17 @@
 // The solver: a run over the game of a file, and what is handed back when it is over.
 use file::first_refusal;
-use file::word_at;
+use file::number_at;
 use game::Game;
 use game::StateNo;
 ghost use mathlib.Core.Path.{_≡_};
 ghost use Prim.Native.Nat.{_≤_};
 ghost use lib.ListN.{length};
 ghost use Rattle.game.specs.Limits.{maxStates};
-ghost use Rattle.game.specs.Rows.{fill};
-ghost use Rattle.game.specs.Game.{blockAt};
 ghost use Rattle.game.specs.declared.Game.{Game};
-ghost use Rattle.runs.specs.Run.{word};
-ghost use Rattle.solver.specs.Plan.{mark, planned};
-ghost use Rattle.solver.specs.Solve.{said, solveVerdict, solveMarks, solveBlocks, solveMoves};
-ghost use Rattle.solver.specs.Work.{Finished, decisionBy, saidBy, Apart, HandedBack};
-ghost use Rattle.rows.specs.Rows.{Present};
+ghost use Rattle.runs.specs.Run.{lowestFirst, run};
+ghost use Rattle.solver.specs.Solve.{said, runOf, solved};
+ghost use Rattle.solver.specs.Work.{Finished, decisionBy, Apart, HandedBack};
+ghost use Rattle.rows.specs.RoundRows.{Present};
 ghost use Rattle.file.specs.Refusals.{refusal};
 ghost use Rattle.decoding.specs.Decode.{gameOf};
 
@@ -58,7 +55,7 @@ fn decide(n: usize, starts: &[u8], marks: &[u16]) -> Decision
 
 // The verdict of a decision after so many splits.
 fn spoken(decision: Decision, splits: u16) -> Verdict
-    ensures { λ r. ⌜ r ≡ saidBy decision splits ⌝ }
+    ensures { λ r. ⌜ r ≡ said decision splits ⌝ }
 {
     match decision {
         Decision::Yes(named) => Verdict::Yes(named, splits),
@@ -87,7 +84,7 @@ fn hand_back(
 ) -> Verdict
     requires { ⌜ ((g : Game) × Finished g n m objective (now turn) (now starts) (now from) (now to) (now block) (now lower) (now upper)) ⌝ }
     requires { ⌜ (maxStates ≤ length (now marks)) × (maxStates ≤ length (now blocks)) × (maxStates ≤ length (now moves)) ⌝ }
-    ensures { λ r. ⌜ ((g : Game) → Finished g n m objective (now (turn .entry)) (now (starts .entry)) (now (from .entry)) (now (to .entry)) (now (block .entry)) (now (lower .entry)) (now (upper .entry)) → (r ≡ said (word g) g splits) × (now (marks .exit) ≡ fill (g .states) (mark g) (now (marks .entry))) × (now (blocks .exit) ≡ fill (g .states) (blockAt g) (now (blocks .entry))) × (now (moves .exit) ≡ fill (g .states) (planned (word g) g) (now (moves .entry)))) ⌝ }
+    ensures { λ r. ⌜ ((g : Game) → Finished g n m objective (now (turn .entry)) (now (starts .entry)) (now (from .entry)) (now (to .entry)) (now (block .entry)) (now (lower .entry)) (now (upper .entry)) → HandedBack (record { splits = splits; last = g }) (record { marks = now (marks .entry); blocks = now (blocks .entry); moves = now (moves .entry) }) r (record { marks = now (marks .exit); blocks = now (blocks .exit); moves = now (moves .exit) })) ⌝ }
 {
     let worked = written::mark_row(n, objective, lower, upper);
     let decision = decide(n, starts, &worked);
@@ -121,7 +118,7 @@ fn run_and_hand_back(
 ) -> Verdict
     requires { ⌜ ((g : Game) × Present g side n m objective (now turn) (now starts) (now from) (now to) (now last) (now before) (now need) (now first) (now prey) (now block)) ⌝ }
     requires { ⌜ (maxStates ≤ length (now marks)) × (maxStates ≤ length (now blocks)) × (maxStates ≤ length (now moves)) ⌝ }
-    ensures { λ r. ⌜ ((g : Game) → Present g side n m objective (now (turn .entry)) (now (starts .entry)) (now (from .entry)) (now (to .entry)) (now (last .entry)) (now (before .entry)) (now (need .entry)) (now (first .entry)) (now (prey .entry)) (now (block .entry)) → HandedBack g allowance r (now (marks .entry)) (now (marks .exit)) (now (blocks .entry)) (now (blocks .exit)) (now (moves .entry)) (now (moves .exit))) ⌝ }
+    ensures { λ r. ⌜ ((g : Game) → Present g side n m objective (now (turn .entry)) (now (starts .entry)) (now (from .entry)) (now (to .entry)) (now (last .entry)) (now (before .entry)) (now (need .entry)) (now (first .entry)) (now (prey .entry)) (now (block .entry)) → HandedBack (run lowestFirst allowance g) (record { marks = now (marks .entry); blocks = now (blocks .entry); moves = now (moves .entry) }) r (record { marks = now (marks .exit); blocks = now (blocks .exit); moves = now (moves .exit) })) ⌝ }
 {
     let ran = outcome::run_rounds(
         n,
@@ -179,7 +176,7 @@ fn solve_rows(
 ) -> Verdict
     requires { ⌜ ((g : Game) × Apart g side n m objective (now turn) (now starts) (now from) (now to) (now prey) (now block)) ⌝ }
     requires { ⌜ (maxStates ≤ length (now marks)) × (maxStates ≤ length (now blocks)) × (maxStates ≤ length (now moves)) ⌝ }
-    ensures { λ r. ⌜ ((g : Game) → Apart g side n m objective (now (turn .entry)) (now (starts .entry)) (now (from .entry)) (now (to .entry)) (now (prey .entry)) (now (block .entry)) → HandedBack g allowance r (now (marks .entry)) (now (marks .exit)) (now (blocks .entry)) (now (blocks .exit)) (now (moves .entry)) (now (moves .exit))) ⌝ }
+    ensures { λ r. ⌜ ((g : Game) → Apart g side n m objective (now (turn .entry)) (now (starts .entry)) (now (from .entry)) (now (to .entry)) (now (prey .entry)) (now (block .entry)) → HandedBack (run lowestFirst allowance g) (record { marks = now (marks .entry); blocks = now (blocks .entry); moves = now (moves .entry) }) r (record { marks = now (marks .exit); blocks = now (blocks .exit); moves = now (moves .exit) })) ⌝ }
 {
     let mut last = [0u16; Game::MAX_STATES];
     let mut before = [0u16; Game::MAX_MOVES];
@@ -222,11 +219,11 @@ fn solve_game(
 ) -> Verdict
     requires { ⌜ refusal (now file) ≡ 0 ⌝ }
     requires { ⌜ (maxStates ≤ length (now marks)) × (maxStates ≤ length (now blocks)) × (maxStates ≤ length (now moves)) ⌝ }
-    ensures { λ r. ⌜ HandedBack (gameOf (now (file .entry))) allowance r (now (marks .entry)) (now (marks .exit)) (now (blocks .entry)) (now (blocks .exit)) (now (moves .entry)) (now (moves .exit)) ⌝ }
+    ensures { λ r. ⌜ HandedBack (runOf (now (file .entry)) allowance) (record { marks = now (marks .entry); blocks = now (blocks .entry); moves = now (moves .entry) }) r (record { marks = now (marks .exit); blocks = now (blocks .exit); moves = now (moves .exit) }) ⌝ }
 {
-    let n = word_at(file, 4) as usize;
-    let m = word_at(file, 6) as usize;
-    let objective = word_at(file, 8);
+    let n = number_at(file, 4) as usize;
+    let m = number_at(file, 6) as usize;
+    let objective = number_at(file, 8);
     let side = rounds::hunting_side(objective);
     let mut turn = [0u8; Game::MAX_STATES];
     let mut starts = [0u8; Game::MAX_STATES];
@@ -263,10 +260,7 @@ pub fn solve(
     blocks: &mut [u16],
     moves: &mut [u16],
 ) -> Verdict
-    ensures verdict { λ r. ⌜ r ≡ solveVerdict (now (file .entry)) allowance (now (marks .entry)) (now (blocks .entry)) (now (moves .entry)) ⌝ }
-    ensures marks { λ _. ⌜ now (marks .exit) ≡ solveMarks (now (file .entry)) allowance (now (marks .entry)) (now (blocks .entry)) (now (moves .entry)) ⌝ }
-    ensures blocks { λ _. ⌜ now (blocks .exit) ≡ solveBlocks (now (file .entry)) allowance (now (marks .entry)) (now (blocks .entry)) (now (moves .entry)) ⌝ }
-    ensures moves { λ _. ⌜ now (moves .exit) ≡ solveMoves (now (file .entry)) allowance (now (marks .entry)) (now (blocks .entry)) (now (moves .entry)) ⌝ }
+    ensures { λ r. ⌜ record { answer = r; rows = record { marks = now (marks .exit); blocks = now (blocks .exit); moves = now (moves .exit) } } ≡ solved (now (file .entry)) allowance (record { marks = now (marks .entry); blocks = now (blocks .entry); moves = now (moves .entry) }) ⌝ }
 {
     if marks.len() < Game::MAX_STATES {
         return Verdict::Refused(1);

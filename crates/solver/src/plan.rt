@@ -9,11 +9,12 @@ ghost use Prim.Native.Nat.{ℕ, _<_};
 ghost use Rattle.game.specs.Limits.{maxStates};
 ghost use Rattle.game.specs.Rows.{Cells};
 ghost use Rattle.game.specs.Game.{knownTurn};
-ghost use Rattle.game.specs.Arena.{sideOf};
+ghost use Rattle.game.specs.Published.{sideOf};
 ghost use Rattle.game.specs.declared.Game.{Game};
 ghost use Rattle.runs.specs.Run.{word};
-ghost use Rattle.solver.specs.Plan.{planned};
-ghost use Rattle.solver.specs.Work.{goodMove, lowerOf, lowestGood, Walk, Planning, decisionOf, winnerRule};
+ghost use Rattle.solver.specs.Rules.{planned};
+ghost use Rattle.solver.specs.Solve.{decisionOf};
+ghost use Rattle.solver.specs.Work.{goodMove, lowerOf, lowestGood, Walk, Planning, winnerRule};
 
 // No move.
 pub const NONE: u16 = 65535;

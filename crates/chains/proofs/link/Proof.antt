@@ -19,7 +19,7 @@ pub link-spec : {M : Type 1} → statement M
 link-spec =
     tie.close
     (tie.spec Inv-loop μ-loop
-    (λ c. (search places, link-none _ (c .pre .4), holds-none _ _, refl, refl))
+    (λ c. (search places, link-none (c .args .key .now) (c .pre .4), holds-none _ _, refl, refl))
     (λ c. search places)
     (λ c. search places)
     (λ c. search places)
@@ -39,8 +39,8 @@ link-spec =
     let inv = at-loop .loop .inv in
     let low = start .pre .2 .below _ (c .before .before .loop-test .taken) in (
       omega arith,
-      link-more _ (at-loop .loop .k) (inv .1) low,
-      link-before _ (at-loop .loop .k) (inv .1) low (inv .2) (omega arith),
+      link-more (start .args .key .now) (at-loop .loop .k) (inv .1) low,
+      link-before (start .args .key .now) (at-loop .loop .k) (inv .1) low (inv .2) (omega arith),
       simp length-set (inv .3),
       simp length-set (inv .4),
     ))

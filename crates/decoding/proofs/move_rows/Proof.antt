@@ -50,8 +50,8 @@ move-rows-spec =
     let place = c .before .before .move-at .ensures .0 in
     let in-row : at-loop .loop .k < length (blank maxMoves (stateNo 0)) = omega (arith, blank-length maxMoves (stateNo 0)) in (
       search walk,
-      fill-store _ _ _ in-row _ (at-loop .loop .inv .1) _ (ap stateNo (rw place at (c .before .word-at .ensures))),
-      fill-store _ _ _ in-row _ (at-loop .loop .inv .2) _ (ap stateNo (rw place at (c .word-at2 .ensures))),
+      fill-store _ _ _ in-row _ (at-loop .loop .inv .1) _ (ap stateNo (rw place at (c .before .number-at .ensures))),
+      fill-store _ _ _ in-row _ (at-loop .loop .inv .2) _ (ap stateNo (rw place at (c .number-at2 .ensures))),
     ))
     (λ c.
     let last = c .before in

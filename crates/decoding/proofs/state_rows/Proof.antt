@@ -53,7 +53,7 @@ state-rows-spec =
       search walk,
       fill-store _ _ _ in-row _ (at-loop .loop .inv .1) _ refl,
       fill-store _ _ _ in-row _ (at-loop .loop .inv .2) _ refl,
-      fill-store _ _ _ in-blocks _ (at-loop .loop .inv .3) _ (ap blockNo (c .word-at .ensures)),
+      fill-store _ _ _ in-blocks _ (at-loop .loop .inv .3) _ (ap blockNo (c .number-at .ensures)),
     ))
     (λ c.
     let last = c .before in (

@@ -19,17 +19,17 @@ first-refusal-spec =
     (λ c κs. omega (arith, head-long _ _ (c .before .before .head-fault .ensures) (c .before .if1 .left)))
     (λ c. search faults)
     (λ c κs. omega (arith, few-states _ _ (c .before .before .before .head-fault .ensures) (c .before .before .if1 .left)))
-    (λ c. rw (← c .before .before .before .word-at .ensures, ← c .before .before .word-at2 .ensures) (search faults))
+    (λ c. rw (← c .before .before .before .number-at .ensures, ← c .before .before .number-at2 .ensures) (search faults))
     (λ c κs.
     let at-head = c .before .before .before .before .before in
     let none = c .before .before .before .before .if1 .left in
     (search faults, omega (arith, few-states _ _ (at-head .head-fault .ensures) none), omega (arith, few-moves _ _ (at-head .head-fault .ensures) none)))
-    (λ c. rw (← c .before .before .before .before .before .word-at .ensures, ← c .before .before .before .before .word-at2 .ensures) (search faults))
+    (λ c. rw (← c .before .before .before .before .before .number-at .ensures, ← c .before .before .before .before .number-at2 .ensures) (search faults))
     (λ c κs. (
       search faults,
       search faults,
       sound _ (sym (c .before .before .before .before .before .before .before .head-fault .ensures) ∙ c .before .before .before .before .before .before .if1 .left)
-          (rw (c .before .before .before .before .before .word-at .ensures) at (sym (c .before .before .before .states-fault .ensures) ∙ c .before .before .if2 .left))
-          (rw (c .before .before .before .before .word-at2 .ensures) at (sym (c .before .moves-fault .ensures) ∙ c .if3 .left)),
+          (rw (c .before .before .before .before .before .number-at .ensures) at (sym (c .before .before .before .states-fault .ensures) ∙ c .before .before .if2 .left))
+          (rw (c .before .before .before .before .number-at2 .ensures) at (sym (c .before .moves-fault .ensures) ∙ c .if3 .left)),
     ))
-    (λ c. rw (← c .before .before .before .before .before .before .word-at .ensures, ← c .before .before .before .before .before .word-at2 .ensures) (search faults)))
+    (λ c. rw (← c .before .before .before .before .before .before .number-at .ensures, ← c .before .before .before .before .before .number-at2 .ensures) (search faults)))

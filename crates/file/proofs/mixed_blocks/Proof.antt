@@ -39,22 +39,22 @@ mixed-blocks-spec =
     (λ c. search walk)
     (λ c.
     let start = c .before .before .before .before .before .before .before in
-    omega (arith, block-below _ _ (start .pre .0) (start .pre .2) _ _ (c .before .before .before .before .loop-test .taken) (c .before .before .before .word-at .ensures)))
+    omega (arith, block-below _ _ (start .pre .0) (start .pre .2) _ _ (c .before .before .before .before .loop-test .taken) (c .before .before .before .number-at .ensures)))
     (λ c κs. search walk)
     (λ c.
     let at-has = c .before .before .before in
-    let at-word = at-has .before .before in
-    let start = at-word .before .before .before .before in
+    let at-number = at-has .before .before in
+    let start = at-number .before .before .before .before in
     mixed-found _ _ (start .pre .2) _ (omega arith)
-    (λ q. beq-apart _ _ (c .if1 .taken) (at-has .has-mark .ensures ∙ q ∙ sym (c .before .has-mark2 .ensures ∙ ap (λ (b : ℕ). marked (start .args .mark) (byte (start .args .file .now) (stateAt b + start .args .field))) (at-word .word-at .ensures)))))
+    (λ q. beq-apart _ _ (c .if1 .taken) (at-has .has-mark .ensures ∙ q ∙ sym (c .before .has-mark2 .ensures ∙ ap (λ (b : ℕ). marked (start .args .mark) (byte (start .args .file .now) (stateAt b + start .args .field))) (at-number .number-at .ensures)))))
     (λ c. search walk)
     (λ c. search walk)
     (λ c.
     let at-has = c .before .before .before in
-    let at-word = at-has .before .before in
-    let start = at-word .before .before .before .before in (
+    let at-number = at-has .before .before in
+    let start = at-number .before .before .before .before in (
       search walk,
-      below-more _ _ (at-word .before .before .loop .inv .1)
-          (sym (at-has .has-mark .ensures) ∙ beq-same _ _ (c .if1 .left) ∙ c .before .has-mark2 .ensures ∙ ap (λ (b : ℕ). marked (start .args .mark) (byte (start .args .file .now) (stateAt b + start .args .field))) (at-word .word-at .ensures)),
+      below-more _ _ (at-number .before .before .loop .inv .1)
+          (sym (at-has .has-mark .ensures) ∙ beq-same _ _ (c .if1 .left) ∙ c .before .has-mark2 .ensures ∙ ap (λ (b : ℕ). marked (start .args .mark) (byte (start .args .file .now) (stateAt b + start .args .field))) (at-number .number-at .ensures)),
     ))
     (λ c. mixed-none _ _ (λ s l. c .before .loop .inv .1 s (omega arith))))

@@ -38,16 +38,16 @@ moved-row-spec =
     (λ c. search walk)
     (λ c.
     let start = c .before .before .before .before .before in
-    from-small _ _ (start .pre .0) (start .pre .2) _ (start .pre .1) _ _ (c .before .before .loop-test .taken) (c .before .move-at .ensures .0) _ (c .word-at .ensures))
+    from-small _ _ (start .pre .0) (start .pre .2) _ (start .pre .1) _ _ (c .before .before .loop-test .taken) (c .before .move-at .ensures .0) _ (c .number-at .ensures))
     (λ c. search walk)
     (λ c. search walk)
     (λ c.
     let start = c .before .before .before .before .before in
     let at-loop = c .before .before .before in
-    let read : c .word-at .result ≡ from (start .args .file .now) (at-loop .loop .k) = rw (c .before .move-at .ensures .0) at (c .word-at .ensures) in (
+    let read : c .number-at .result ≡ from (start .args .file .now) (at-loop .loop .k) = rw (c .before .move-at .ensures .0) at (c .number-at .ensures) in (
       search walk,
       cells-store _ 1 (at-loop .loop .inv .1) refl
-          (from-small _ _ (start .pre .0) (start .pre .2) _ (start .pre .1) _ _ (c .before .before .loop-test .taken) (c .before .move-at .ensures .0) _ (c .word-at .ensures))
+          (from-small _ _ (start .pre .0) (start .pre .2) _ (start .pre .1) _ _ (c .before .before .loop-test .taken) (c .before .move-at .ensures .0) _ (c .number-at .ensures))
           (some-now _ _ (eq-eqb _ _ (sym read)))
           (λ s ne. some-same _ _ (ne-eqb _ _ (λ q. ne (sym (read ∙ q))))),
     ))

@@ -26,5 +26,5 @@ state-fields-spec =
     (λ c. search faults)
     (λ c. search faults)
     (λ c κs. search faults)
-    (λ c. rw (← c .before .before .before .word-at .ensures) (search faults))
-    (λ c. rw (← c .before .before .before .word-at .ensures) (search faults)))
+    (λ c. rw (← c .before .before .before .number-at .ensures) (search faults))
+    (λ c. rw (← c .before .before .before .number-at .ensures) (search faults)))

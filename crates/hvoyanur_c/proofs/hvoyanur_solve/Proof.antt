@@ -1,7 +1,7 @@
 -- `hvoyanur_solve` meets its contract.
-use mathlib.Core.Path.{_∙_, ap}
+use mathlib.Core.Path.{ap}
 use borrow.Author.Needs.{needs}
-use Rattle.hvoyanur_c.specs.Pack.{packed}
+use Rattle.hvoyanur_c.specs.Pack.{packedOutcome}
 use Rattle.hvoyanur_c.proofs.hvoyanur_solve.Statement.{statement}
 use Rattle.hvoyanur_c.proofs.hvoyanur_solve.Tie as tie
 
@@ -16,4 +16,4 @@ hvoyanur-solve-spec =
     (λ c. search needs)
     (λ c.
     let at-call = c .before .before .before .before .before .before .before in
-    (c .pack .ensures ∙ ap packed (at-call .solve .ensures .0), at-call .solve .ensures .1)))
+    rw (c .pack .ensures) (ap packedOutcome (at-call .solve .ensures))))

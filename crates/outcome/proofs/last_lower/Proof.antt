@@ -1,7 +1,7 @@
 -- `last_lower` meets its contract.
 use mathlib.Core.Path.{_∙_}
 use Rattle.rows.proofs.Present.{lent, few-states}
-use Rattle.play.proofs.Ending.{lowered-anew, numbered-anew}
+use Rattle.outcome.proofs.Course.{lowered-anew, numbered-anew}
 use Rattle.outcome.proofs.last_lower.Statement.{statement}
 use Rattle.outcome.proofs.last_lower.Tie as tie
 

@@ -1,6 +1,6 @@
 -- `last_rows` meets its contract.
 use borrow.Author.Needs.{needs}
-use Rattle.play.proofs.Ending.{underway-last}
+use Rattle.outcome.proofs.Course.{underway-last}
 use Rattle.outcome.proofs.last_rows.Statement.{statement}
 use Rattle.outcome.proofs.last_rows.Tie as tie
 

@@ -1,60 +1,74 @@
--- `run_rounds` meets its contract.
+-- `run_rounds` meets its contract: each answer is a step of the run's course.
+use Prim.Native.Nat.{ℕ, _≤_}
+use mathlib.Core.Path.{_≡_, refl, sym, _∙_}
+use native.Mathlib.Nat.{le-refl}
 use native.Mathlib.Omega.{arith}
-use borrow.Author.Needs.{needs}
+use Rattle.game.specs.Limits.{maxStates}
 use Rattle.rows.proofs.Present.{lent, few-states}
-use Rattle.play.proofs.Ending.{lowered-anew, numbered-anew, begun, finishing, final}
+use Rattle.outcome.proofs.Course.{begins, stops, fits, finishes, ends}
 use Rattle.outcome.proofs.run_rounds.Statement.{statement}
 use Rattle.outcome.proofs.run_rounds.Tie as tie
+
+-- a row of the limit's length has a place for each state
+within-row : {n k : ℕ} → n ≤ maxStates → k ≡ maxStates → n ≤ k
+within-row few e = omega arith
 
 pub run-rounds-spec : {M : Type 1} → statement M
 run-rounds-spec =
     tie.close
     (tie.spec
-    (λ c. search needs)
-    (λ c κs. (let p = c .before .before .before .before .before .before .before .before .before .before .before .pre .1 in let few = few-states p in let long = p .prey-is .long in search needs))
-    (λ c. search needs)
-    (λ c. search needs)
-    (λ c. search needs)
-    (λ c. search needs)
-    (λ c. search needs)
-    (λ c. search needs)
-    (λ c. search needs)
-    (λ c κs. (let p = c .before .before .before .before .before .before .before .before .before .before .before .before .before .before .before .before .before .before .before .before .before .pre .1 in let few = few-states p in ((c .before .before .before .before .before .before .before .before .before .before .before .before .before .before .before .before .before .before .before .before .before .pre .0, c .before .before .before .before .before .before .before .before .before .before .before .before .before .before .before .before .before .before .before .before .before .args .side, lent p), (p .chains, few, few, few, few, few, c .before .before .before .before .before .before .before .before .before .copy-row .ensures .long, few))))
-    (λ c. search needs)
-    (λ c. search needs)
-    (λ c. search needs)
-    (λ c. search needs)
-    (λ c. search needs)
-    (λ c. search needs)
-    (λ c. search needs)
-    (λ c. search needs)
-    (λ c. search needs)
-    (λ c κs. (let p = c .before .before .before .before .before .before .before .before .before .before .before .before .before .before .before .before .before .before .before .before .before .before .before .before .before .before .before .before .before .before .before .before .before .before .before .before .before .before .before .pre .1 in
+    (λ c. refl)
+    (λ c κs. let p = c .before .before .before .before .before .before .before .before .before .before .before .pre .1 in (few-states p, p .prey-is .long, few-states p))
+    (λ c. refl)
+    (λ c. refl)
+    (λ c. refl)
+    (λ c. refl)
+    (λ c. refl)
+    (λ c. sym (c .before .before .before .before .before .before .before .lower2 .given))
+    (λ c. refl)
+    (λ c κs.
+    let start = c .before .before .before .before .before .before .before .before .before .before .before .before .before .before .before .before .before .before .before .before .before in
+    let p = start .pre .1 in
+    let few = few-states p in
+    ((start .pre .0, start .args .side, lent p), (p .chains, few, few, few, few, few, c .before .before .before .before .before .before .before .before .before .copy-row .ensures .long, few)))
+    (λ c. sym (c .before .before .before .before .before .before .before .before .last-member2 .given))
+    (λ c. sym (c .before .before .before .before .before .before .before .before .member-before2 .given))
+    (λ c. sym (c .before .before .before .before .before .before .before .before .size2 .given))
+    (λ c. sym (c .before .before .before .before .before .before .before .before .have2 .given))
+    (λ c. sym (c .before .before .before .before .before .before .before .before .hit2 .given))
+    (λ c. sym (c .before .before .before .before .before .before .before .before .lower4 .given))
+    (λ c. sym (c .before .before .before .before .before .before .before .before .queue2 .given))
+    (λ c. refl)
+    (λ c. refl)
+    (λ c κs.
+    let start = c .before .before .before .before .before .before .before .before .before .before .before .before .before .before .before .before .before .before .before .before .before .before .before .before .before .before .before .before .before .before .before .before .before .before .before .before .before .before .before in
     let done = c .before .before .before .before .before .before .before .before .before .before .before .before .before .before .before .before .before .grow-anew .ensures in
-    let held = done .1 (c .before .before .before .before .before .before .before .before .before .before .before .before .before .before .before .before .before .before .before .before .before .before .before .before .before .before .before .before .before .before .before .before .before .before .before .before .before .before .before .pre .0) (c .before .before .before .before .before .before .before .before .before .before .before .before .before .before .before .before .before .before .before .before .before .before .before .before .before .before .before .before .before .before .before .before .before .before .before .before .before .before .before .args .side) (lent p) in
-    (begun p (lowered-anew p (c .before .before .before .before .before .before .before .before .before .before .before .before .before .before .before .before .before .before .before .before .before .before .before .before .before .before .before .copy-row .ensures) held (done .0 .0) (done .0 .1)), (omega arith, omega arith))))
-    (λ c. search needs)
-    (λ c. search needs)
-    (λ c. search needs)
-    (λ c. search needs)
-    (λ c. search needs)
-    (λ c. search needs)
-    (λ c. search needs)
-    (λ c κs. (let p = c .before .before .before .before .before .before .before .before .before .before .before .before .before .before .before .before .before .before .before .before .before .before .before .before .before .before .before .before .before .before .before .before .before .before .before .before .before .before .before .before .before .before .before .before .before .before .before .before .before .before .before .before .before .before .before .before .before .before .before .pre .1 in
-    let done = c .before .before .before .before .before .before .before .before .before .before .before .before .before .before .before .before .before .before .before .before .before .before .before .before .before .before .before .before .before .before .before .before .before .before .before .before .before .grow-anew .ensures in
-    let held = done .1 (c .before .before .before .before .before .before .before .before .before .before .before .before .before .before .before .before .before .before .before .before .before .before .before .before .before .before .before .before .before .before .before .before .before .before .before .before .before .before .before .before .before .before .before .before .before .before .before .before .before .before .before .before .before .before .before .before .before .before .before .pre .0) (c .before .before .before .before .before .before .before .before .before .before .before .before .before .before .before .before .before .before .before .before .before .before .before .before .before .before .before .before .before .before .before .before .before .before .before .before .before .before .before .before .before .before .before .before .before .before .before .before .before .before .before .before .before .before .before .before .before .before .before .args .side) (lent p) in
-    let out = c .before .before .before .before .before .before .before .before .before .before .before .before .before .before .before .before .before .before .before .play-out .ensures (begun p (lowered-anew p (c .before .before .before .before .before .before .before .before .before .before .before .before .before .before .before .before .before .before .before .before .before .before .before .before .before .before .before .before .before .before .before .before .before .before .before .before .before .before .before .before .before .before .before .before .before .before .before .copy-row .ensures) held (done .0 .0) (done .0 .1))) in
-    (finishing p out (numbered-anew p (c .before .before .before .before .before .before .before .before .before .before .before .before .before .before .before .before .before .before .before .before .before .before .before .before .before .before .before .before .before .before .before .before .before .before .before .before .before .before .before .before .before .before .before .before .before .before .before .copy-row .ensures) held), (let few = few-states p in (omega (arith, few, c .before .before .before .before .before .before .before .before .before .before .before .before .before .before .before .before .last-member4 .given), omega (arith, few, c .before .before .before .before .before .before .before .before .before .before .before .before .before .before .before .member-before4 .given), omega (arith, few, c .before .before .before .before .before .before .before .before .before .before .before .before .before .before .size4 .given), omega (arith, few, c .before .before .before .before .before .before .before .before .before .before .before .before .before .have4 .given), omega (arith, few, c .before .before .before .before .before .before .before .before .before .before .before .before .hit4 .given), omega (arith, few, c .before .before .before .before .before .before .before .before .before .before .before .lower6 .given), omega (arith, few, c .before .before .before .before .before .before .before .before .before .before .queue4 .given))))))
-    (λ c. let p = c .before .before .before .before .before .before .before .before .before .before .before .before .before .before .before .before .before .before .before .before .before .before .before .before .before .before .before .before .before .before .before .before .before .before .before .before .before .before .before .before .before .before .before .before .before .before .before .before .before .before .before .before .before .before .before .before .before .before .before .before .before .before .before .before .before .before .before .before .pre .1 in
-    let done = c .before .before .before .before .before .before .before .before .before .before .before .before .before .before .before .before .before .before .before .before .before .before .before .before .before .before .before .before .before .before .before .before .before .before .before .before .before .before .before .before .before .before .before .before .before .before .grow-anew .ensures in
-    let held = done .1 (c .before .before .before .before .before .before .before .before .before .before .before .before .before .before .before .before .before .before .before .before .before .before .before .before .before .before .before .before .before .before .before .before .before .before .before .before .before .before .before .before .before .before .before .before .before .before .before .before .before .before .before .before .before .before .before .before .before .before .before .before .before .before .before .before .before .before .before .before .pre .0) (c .before .before .before .before .before .before .before .before .before .before .before .before .before .before .before .before .before .before .before .before .before .before .before .before .before .before .before .before .before .before .before .before .before .before .before .before .before .before .before .before .before .before .before .before .before .before .before .before .before .before .before .before .before .before .before .before .before .before .before .before .before .before .before .before .before .before .before .before .args .side) (lent p) in
-    let out = c .before .before .before .before .before .before .before .before .before .before .before .before .before .before .before .before .before .before .before .before .before .before .before .before .before .before .before .before .play-out .ensures (begun p (lowered-anew p (c .before .before .before .before .before .before .before .before .before .before .before .before .before .before .before .before .before .before .before .before .before .before .before .before .before .before .before .before .before .before .before .before .before .before .before .before .before .before .before .before .before .before .before .before .before .before .before .before .before .before .before .before .before .before .before .before .copy-row .ensures) held (done .0 .0) (done .0 .1))) in
-    omega (arith, out .few, few-states p))
-    (λ c. c .before .before .before .before .before .before .before .before .before .before .before .before .before .before .before .before .before .before .before .before .before .before .before .before .before .before .before .block .given)
+    (begins (start .pre .1) (c .before .before .before .before .before .before .before .before .before .before .before .before .before .before .before .before .before .before .before .before .before .before .before .before .before .before .before .copy-row .ensures) (done .1 (start .pre .0) (start .args .side) (lent (start .pre .1))) (done .0 .0) (done .0 .1), (le-refl maxStates, le-refl maxStates)))
+    (λ c. sym (c .before .before .parents2 .given))
+    (λ c. sym (c .before .before .names2 .given))
+    (λ c κs.
+    let start = c .before .before .before .before .before .before .before .before .before .before .before .before .before .before .before .before .before .before .before .before .before .before .before .before .before .before .before .before .before .before .before .before .before .before .before .before .before .before .before .before .before .before .before .before .before .before .before .before .before .before .before .before .before .before in
+    let done = c .before .before .before .before .before .before .before .before .before .before .before .before .before .before .before .before .before .before .before .before .before .before .before .before .before .before .before .before .before .before .before .before .grow-anew .ensures in
+    stops (start .pre .1) (c .before .before .before .before .before .before .before .before .before .before .before .before .before .before .before .before .before .before .before .before .before .before .before .before .before .before .before .before .before .before .before .before .before .before .before .before .before .before .before .before .before .before .copy-row .ensures) (done .1 (start .pre .0) (start .args .side) (lent (start .pre .1))) (done .0 .0) (done .0 .1) (c .before .before .before .before .before .before .before .before .before .before .before .before .before .before .play-rounds .ensures))
+    (λ c. sym (c .before .before .before .before .before .before .before .before .before .before .before .before .before .before .before .before .last-member4 .given))
+    (λ c. sym (c .before .before .before .before .before .before .before .before .before .before .before .before .before .before .before .before .member-before4 .given))
+    (λ c. sym (c .before .before .before .before .before .before .before .before .before .before .before .before .before .before .before .before .size4 .given))
+    (λ c. sym (c .before .before .before .before .before .before .before .before .before .before .before .before .before .before .before .before .have4 .given))
+    (λ c. sym (c .before .before .before .before .before .before .before .before .before .before .before .before .before .before .before .before .hit4 .given))
+    (λ c. sym (c .before .before .before .before .before .before .before .before .before .before .before .before .before .before .before .before .lower6 .given))
+    (λ c. sym (c .before .before .before .before .before .before .before .before .before .before .before .before .before .before .before .before .queue4 .given))
+    (λ c κs.
+    let start = c .before .before .before .before .before .before .before .before .before .before .before .before .before .before .before .before .before .before .before .before .before .before .before .before .before .before .before .before .before .before .before .before .before .before .before .before .before .before .before .before .before .before .before .before .before .before .before .before .before .before .before .before .before .before .before .before .before .before .before .before .before .before .before .before .before in
+    let done = c .before .before .before .before .before .before .before .before .before .before .before .before .before .before .before .before .before .before .before .before .before .before .before .before .before .before .before .before .before .before .before .before .before .before .before .before .before .before .before .before .before .before .before .grow-anew .ensures in
+    let few = few-states (start .pre .1) in (
+      finishes (start .pre .1) (c .before .before .before .before .before .before .before .before .before .before .before .before .before .before .before .before .before .before .before .before .before .before .before .before .before .before .before .before .before .before .before .before .before .before .before .before .before .before .before .before .before .before .before .before .before .before .before .before .before .before .before .before .before .copy-row .ensures) (done .1 (start .pre .0) (start .args .side) (lent (start .pre .1))) (done .0 .0) (done .0 .1) (c .before .before .before .before .before .before .before .before .before .before .before .before .before .before .before .before .before .before .before .before .before .before .before .before .before .play-rounds .ensures) (c .before .before .before .before .before .before .before .before .before .before .last-round .ensures),
+      (within-row few (c .before .before .before .before .before .before .before .before .before .before .before .before .before .before .before .before .before .before .before .before .before .before .last-member4 .given), within-row few (c .before .before .before .before .before .before .before .before .before .before .before .before .before .before .before .before .before .before .before .before .before .member-before4 .given), within-row few (c .before .before .before .before .before .before .before .before .before .before .before .before .before .before .before .before .before .before .before .before .size4 .given), within-row few (c .before .before .before .before .before .before .before .before .before .before .before .before .before .before .before .before .before .before .before .have4 .given), within-row few (c .before .before .before .before .before .before .before .before .before .before .before .before .before .before .before .before .before .before .hit4 .given), within-row few (c .before .before .before .before .before .before .before .before .before .before .before .before .before .before .before .before .before .lower6 .given), within-row few (c .before .before .before .before .before .before .before .before .before .before .before .before .before .before .before .before .queue4 .given)),
+    ))
+    (λ c.
+    let start = c .before .before .before .before .before .before .before .before .before .before .before .before .before .before .before .before .before .before .before .before .before .before .before .before .before .before .before .before .before .before .before .before .before .before .before .before .before .before .before .before .before .before .before .before .before .before .before .before .before .before .before .before .before .before .before .before .before .before .before .before .before .before .before .before .before .before .before .before .before .before .before .before .before in
+    let done = c .before .before .before .before .before .before .before .before .before .before .before .before .before .before .before .before .before .before .before .before .before .before .before .before .before .before .before .before .before .before .before .before .before .before .before .before .before .before .before .before .before .before .before .before .before .before .before .before .before .before .before .grow-anew .ensures in
+    fits (start .pre .1) (c .before .before .before .before .before .before .before .before .before .before .before .before .before .before .before .before .before .before .before .before .before .before .before .before .before .before .before .before .before .before .before .before .before .before .before .before .before .before .before .before .before .before .before .before .before .before .before .before .before .before .before .before .before .before .before .before .before .before .before .before .before .copy-row .ensures) (done .1 (start .pre .0) (start .args .side) (lent (start .pre .1))) (done .0 .0) (done .0 .1) (c .before .before .before .before .before .before .before .before .before .before .before .before .before .before .before .before .before .before .before .before .before .before .before .before .before .before .before .before .before .before .before .before .before .play-rounds .ensures) (c .before .before .before .before .before .before .before .before .before .before .before .before .before .before .before .before .before .before .last-round .ensures))
+    (λ c. c .before .before .before .before .before .before .before .before .before .before .before .before .before .before .before .before .before .block2 .given ∙ c .before .before .before .before .before .before .before .before .before .before .before .before .before .before .before .before .before .before .before .before .before .before .before .before .before .before .before .before .before .before .before .before .block .given)
     (λ c. λ g p.
-    let done = c .before .before .before .before .before .before .before .before .before .before .before .before .before .before .before .before .before .before .before .before .before .before .before .before .before .before .before .before .before .before .before .before .before .before .before .before .before .before .before .before .before .before .before .before .before .before .grow-anew .ensures in
-    let held = done .1 g (c .before .before .before .before .before .before .before .before .before .before .before .before .before .before .before .before .before .before .before .before .before .before .before .before .before .before .before .before .before .before .before .before .before .before .before .before .before .before .before .before .before .before .before .before .before .before .before .before .before .before .before .before .before .before .before .before .before .before .before .before .before .before .before .before .before .before .before .before .args .side) (lent p) in
-    let out = c .before .before .before .before .before .before .before .before .before .before .before .before .before .before .before .before .before .before .before .before .before .before .before .before .before .before .before .before .play-out .ensures (begun p (lowered-anew p (c .before .before .before .before .before .before .before .before .before .before .before .before .before .before .before .before .before .before .before .before .before .before .before .before .before .before .before .before .before .before .before .before .before .before .before .before .before .before .before .before .before .before .before .before .before .before .before .before .before .before .before .before .before .before .before .before .copy-row .ensures) held (done .0 .0) (done .0 .1))) in
-    let numbered = numbered-anew p (c .before .before .before .before .before .before .before .before .before .before .before .before .before .before .before .before .before .before .before .before .before .before .before .before .before .before .before .before .before .before .before .before .before .before .before .before .before .before .before .before .before .before .before .before .before .before .before .before .before .before .before .before .before .before .before .before .copy-row .ensures) held in
-    let rows = c .before .before .before .before .before .before .before .before .last-rows .ensures (finishing p out numbered) in
-    final p out numbered (rows .0) (rows .1)))
+    let done = c .before .before .before .before .before .before .before .before .before .before .before .before .before .before .before .before .before .before .before .before .before .before .before .before .before .before .before .before .before .before .before .before .before .before .before .before .before .before .before .before .before .before .before .before .before .before .before .before .before .before .before .grow-anew .ensures in
+    ends p (c .before .before .before .before .before .before .before .before .before .before .before .before .before .before .before .before .before .before .before .before .before .before .before .before .before .before .before .before .before .before .before .before .before .before .before .before .before .before .before .before .before .before .before .before .before .before .before .before .before .before .before .before .before .before .before .before .before .before .before .before .before .copy-row .ensures) (done .1 g (c .before .before .before .before .before .before .before .before .before .before .before .before .before .before .before .before .before .before .before .before .before .before .before .before .before .before .before .before .before .before .before .before .before .before .before .before .before .before .before .before .before .before .before .before .before .before .before .before .before .before .before .before .before .before .before .before .before .before .before .before .before .before .before .before .before .before .before .before .before .before .before .before .before .args .side) (lent p)) (done .0 .0) (done .0 .1) (c .before .before .before .before .before .before .before .before .before .before .before .before .before .before .before .before .before .before .before .before .before .before .before .before .before .before .before .before .before .before .before .before .before .play-rounds .ensures) (c .before .before .before .before .before .before .before .before .before .before .before .before .before .before .before .before .before .before .last-round .ensures) (c .before .before .before .before .before .before .before .last-rows .ensures)))

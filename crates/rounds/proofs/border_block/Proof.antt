@@ -11,7 +11,7 @@ use Rattle.arena.proofs.Loops.{some-zero, some-still}
 use Rattle.game.specs.declared.Game.{Game}
 use Rattle.game.proofs.Small.{sweep}
 use Rattle.growth.specs.Stamp.{isIn}
-use Rattle.growth.proofs.Forced.{seen}
+use Rattle.growth.proofs.Seen.{seen}
 use Rattle.rounds.specs.Border.{bordering}
 use Rattle.rounds.specs.Search.{Search}
 use Rattle.rounds.proofs.Searching.{Passed, members-none, members-more, members-less, first-low, to-low, told-none, told-more, told-in, told-out, border-closed, border-none, border-member, Outside, answer-none, answer-found}

@@ -6,7 +6,7 @@ use native.Mathlib.Omega.{arith}
 use lib.ListN.{length, getD, length-set}
 use Rattle.chains.specs.Lent.{Holds}
 use Rattle.rounds.specs.Search.{firstMove}
-use Rattle.rounds.proofs.Moves.{first-none, first-more, nexts}
+use Rattle.rounds.proofs.FirstMoves.{first-none, first-more, nexts}
 use Rattle.rounds.proofs.first_moves.Statement.{statement}
 use Rattle.rounds.proofs.first_moves.Tie as tie
 

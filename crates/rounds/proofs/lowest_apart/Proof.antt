@@ -8,12 +8,12 @@ use Rattle.arena.specs.Sets.{some}
 use Rattle.arena.proofs.Loops.{some-still}
 use Rattle.arena.proofs.Least.{least-found, least-done}
 use Rattle.game.proofs.Small.{sweep}
-use Rattle.rounds.specs.Split.{enough, apart}
+use Rattle.rounds.specs.Renamed.{enough, rowApart}
 use Rattle.rounds.proofs.lowest_apart.Statement.{statement}
 use Rattle.rounds.proofs.lowest_apart.Tie as tie
 
 abbrev Inv-loop : tie.InvT-loop
-Inv-loop n b need have block inside number s₀ s = (s ≤ n) × (some s (apart block b (enough need have)) ≡ false)
+Inv-loop n b need have block inside number s₀ s = (s ≤ n) × (some s (rowApart block b (enough need have)) ≡ false)
 
 abbrev μ-loop : tie.MeasureT-loop
 μ-loop n b need have block inside number s₀ s = n - s

@@ -5,8 +5,8 @@ use Prim.Native.Nat.{ℕ}
 use native.Mathlib.Omega.{arith}
 use borrow.Author.Needs.{needs}
 use lib.ListN.{getD, length-set}
-use Rattle.growth.proofs.Parts.{none-below-one, none-below-two, parted, hits-parted}
-use Rattle.rounds.specs.Split.{enough}
+use Rattle.growth.proofs.Members.{none-below-one, none-below-two, parted, hits-parted}
+use Rattle.rounds.specs.Renamed.{enough}
 use Rattle.rounds.proofs.part_block.Statement.{statement}
 use Rattle.rounds.proofs.part_block.Tie as tie
 

@@ -7,7 +7,7 @@ use Rattle.arena.specs.Sets.{bit}
 use Rattle.game.specs.Limits.{maxStates}
 use Rattle.game.specs.Rows.{fill, blank, zeros}
 use Rattle.game.specs.Game.{marked}
-use Rattle.game.specs.Arena.{goalOf}
+use Rattle.game.specs.Published.{goalOf}
 use Rattle.game.proofs.Rows.{fill-none, fill-store, zeros-length}
 use Rattle.blocks.specs.Hunt.{prey}
 use Rattle.game.proofs.Small.{sweep}

@@ -8,7 +8,7 @@ use lib.Dec.{eqb}
 use Rattle.game.specs.Rows.{fill}
 use Rattle.game.proofs.Rows.{fill-none, fill-done}
 use Rattle.chains.proofs.Filling.{places, filled, change-more}
-use Rattle.rounds.specs.Split.{enough, afterSplit}
+use Rattle.rounds.specs.Renamed.{enough, afterSplit}
 use Rattle.rounds.proofs.rename_apart.Statement.{statement}
 use Rattle.rounds.proofs.rename_apart.Tie as tie
 

@@ -1,15 +1,15 @@
 -- `hand_back` meets its contract.
-use mathlib.Core.Path.{_≡_, ap, _∙_}
+use mathlib.Core.Path.{_≡_, refl, ap, _∙_}
 use native.Mathlib.Omega.{arith}
 use lib.ListN.{length}
 use borrow.Author.Needs.{needs}
 use Rattle.game.specs.Limits.{maxStates}
 use Rattle.game.specs.Game.{blockAt}
 use Rattle.runs.specs.Run.{word}
-use Rattle.solver.specs.Plan.{mark, planned}
-use Rattle.solver.specs.Work.{saidBy}
+use Rattle.solver.specs.Rules.{mark, planned}
+use Rattle.solver.specs.Solve.{said}
 use Rattle.solver.specs.declared.Decision.{Decision}
-use Rattle.solver.proofs.Answers.{few, lower-long, upper-long, planning, marks-are, decided-word, said-by, written}
+use Rattle.solver.proofs.HandingBack.{few, lower-long, upper-long, planning, marks-are, decided-word, written}
 use Rattle.solver.proofs.hand_back.Statement.{statement}
 use Rattle.solver.proofs.hand_back.Tie as tie
 
@@ -64,8 +64,10 @@ hand-back-spec =
     let start = at-marks .before .before .before .before .before .before .before .before .before .before .before in
     let made = marks-are f _ (at-marks .mark-row .ensures) in
     let told = at-decide .decide .ensures ∙ decided-word f (at-marks .mark-row .result) made in (
-      c .spoken .ensures ∙ ap (λ (d : Decision). saidBy d (start .args .splits)) told ∙ said-by (word g) g (start .args .splits),
-      written f (mark g) (at-marks .mark-row .result) _ _ made (wrote-marks .write-row .ensures),
-      written f (blockAt g) (start .args .block .now) _ _ (λ s l. f .block-is .cell s (omega (arith, f .states-is))) (wrote-blocks .write-row2 .ensures),
-      written f (planned (word g) g) (at-plan .plan-row .result) _ _ (at-plan .plan-row .ensures g (planning f) told) (wrote-moves .write-row3 .ensures),
+      c .spoken .ensures ∙ ap (λ (d : Decision). said d (start .args .splits)) told,
+      rw (
+        written f (mark g) (at-marks .mark-row .result) _ _ made (wrote-marks .write-row .ensures),
+        written f (blockAt g) (start .args .block .now) _ _ (λ s l. f .block-is .cell s (omega (arith, f .states-is))) (wrote-blocks .write-row2 .ensures),
+        written f (planned (word g) g) (at-plan .plan-row .result) _ _ (at-plan .plan-row .ensures g (planning f) told) (wrote-moves .write-row3 .ensures),
+      ) refl,
     )))

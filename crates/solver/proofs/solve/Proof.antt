@@ -1,8 +1,7 @@
 -- `solve` meets its contract.
-use mathlib.Core.Path.{refl, sym, _∙_}
-use native.Mathlib.Omega.{arith}
+use mathlib.Core.Path.{sym, _∙_}
 use borrow.Author.Needs.{needs}
-use Rattle.solver.proofs.Answers.{short-marks, short-blocks, short-moves, long-rows, refused, handed}
+use Rattle.solver.proofs.HandingBack.{short-marks, short-blocks, short-moves, long-rows, refused-row, refused-file, handed}
 use Rattle.solver.proofs.solve.Statement.{statement}
 use Rattle.solver.proofs.solve.Tie as tie
 
@@ -10,15 +9,17 @@ pub solve-spec : {M : Type 1} → statement M
 solve-spec =
     tie.close
     (tie.spec
-    (λ c. refused _ _ _ _ _ 1 (short-marks _ _ _ _ (c .if1 .taken)) (λ e. omega arith))
-    (λ c. refused _ _ _ _ _ 1 (short-blocks _ _ _ _ (c .if2 .taken)) (λ e. omega arith))
-    (λ c. refused _ _ _ _ _ 1 (short-moves _ _ _ _ (c .if3 .taken)) (λ e. omega arith))
+    (λ c. refused-row _ _ _ (short-marks _ (c .if1 .taken)))
+    (λ c. refused-row _ _ _ (short-blocks _ (c .if2 .taken)))
+    (λ c. refused-row _ _ _ (short-moves _ (c .if3 .taken)))
     (λ c κs. tt)
-    (λ c. refused _ _ _ _ _ _ (long-rows _ _ _ _ (c .before .before .before .before .if1 .left) (c .before .before .before .if2 .left) (c .before .before .if3 .left) _ (c .before .first-refusal .ensures)) (c .if4 .taken))
+    (λ c. refused-file _ _ _ (long-rows _ (c .before .before .before .before .if1 .left) (c .before .before .before .if2 .left) (c .before .before .if3 .left)) _ (c .before .first-refusal .ensures) (c .if4 .taken))
     (λ c κs. (sym (c .before .before .before .before .first-refusal .ensures) ∙ c .before .before .before .if4 .left, search needs))
     (λ c. search needs)
     (λ c. search needs)
     (λ c. search needs)
-    (λ c. let none = long-rows _ _ _ _ (c .before .before .before .before .before .before .before .before .before .before .before .before .before .before .if1 .left) (c .before .before .before .before .before .before .before .before .before .before .before .before .before .if2 .left) (c .before .before .before .before .before .before .before .before .before .before .before .before .if3 .left) _ (sym (sym (c .before .before .before .before .before .before .before .before .before .before .before .first-refusal .ensures) ∙ c .before .before .before .before .before .before .before .before .before .before .if4 .left)) in
-    let back = c .before .before .before .before .before .before .solve-game .ensures in
-    handed _ _ _ _ _ none _ refl _ _ _ _ (back .verdict-is) (back .marks-are) (back .blocks-are) (back .moves-are)))
+    (λ c.
+    let called = c .before .before .before .before .before .before in
+    let tested = called .before .before .before .before in
+    handed _ _ _ (long-rows _ (tested .before .before .before .before .if1 .left) (tested .before .before .before .if2 .left) (tested .before .before .if3 .left))
+    (sym (tested .before .first-refusal .ensures) ∙ tested .if4 .left) (called .solve-game .ensures)))

@@ -2,7 +2,7 @@
 use mathlib.Core.Path.{sym, ap}
 use borrow.Author.Needs.{needs}
 use Rattle.solver.specs.declared.Decision.{Decision}
-use Rattle.solver.specs.Work.{saidBy}
+use Rattle.solver.specs.Solve.{said}
 use Rattle.solver.proofs.spoken.Statement.{statement}
 use Rattle.solver.proofs.spoken.Tie as tie
 
@@ -13,6 +13,6 @@ spoken-spec =
     (λ c. search needs)
     (λ c. search needs)
     (λ c. search needs)
-    (λ c. ap (λ (d : Decision). saidBy d (c .before .before .before .args .splits)) (sym (c .before .decision .given .1)))
-    (λ c. ap (λ (d : Decision). saidBy d (c .before .before .args .splits)) (sym (c .enum-told .given .1)))
-    (λ c. ap (λ (d : Decision). saidBy d (c .before .before .args .splits)) (sym (c .enum-told2 .given .1))))
+    (λ c. ap (λ (d : Decision). said d (c .before .before .before .args .splits)) (sym (c .before .decision .given .1)))
+    (λ c. ap (λ (d : Decision). said d (c .before .before .args .splits)) (sym (c .enum-told .given .1)))
+    (λ c. ap (λ (d : Decision). said d (c .before .before .args .splits)) (sym (c .enum-told2 .given .1))))

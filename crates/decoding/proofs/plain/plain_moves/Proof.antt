@@ -37,7 +37,7 @@ plain-moves-spec =
     (λ c. search walk)
     (λ c. search walk)
     (λ c. search walk)
-    (λ c. let inv = c .before .before .before .before .loop .inv in let place = c .before .before .move-at .ensures .0 in (search walk, fill-store _ _ _ (omega arith) _ (inv .1) _ (rw place at (c .before .word-at .ensures)), fill-store _ _ _ (omega arith) _ (inv .2) _ (rw place at (c .word-at2 .ensures)), search walk, search walk))
+    (λ c. let inv = c .before .before .before .before .loop .inv in let place = c .before .before .move-at .ensures .0 in (search walk, fill-store _ _ _ (omega arith) _ (inv .1) _ (rw place at (c .before .number-at .ensures)), fill-store _ _ _ (omega arith) _ (inv .2) _ (rw place at (c .number-at2 .ensures)), search walk, search walk))
     (λ c. search walk)
     (λ c. search walk)
     (λ c. let inv = c .before .loop .inv in (fill-done _ _ _ _ _ (inv .1) (omega arith) (omega arith), fill-done _ _ _ _ _ (inv .2) (omega arith) (omega arith))))

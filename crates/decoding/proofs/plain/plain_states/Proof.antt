@@ -46,7 +46,7 @@ plain-states-spec =
       search walk,
       fill-store _ _ _ (omega arith) _ (at-loop .loop .inv .1) _ refl,
       fill-store _ _ _ (omega arith) _ (at-loop .loop .inv .2) _ refl,
-      fill-store _ _ _ (omega arith) _ (at-loop .loop .inv .3) _ (c .word-at .ensures),
+      fill-store _ _ _ (omega arith) _ (at-loop .loop .inv .3) _ (c .number-at .ensures),
       search walk,
       search walk,
       search walk,

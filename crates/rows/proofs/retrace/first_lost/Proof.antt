@@ -8,9 +8,9 @@ use lib.ListN.{length, getD}
 use Rattle.game.specs.Game.{blockAt}
 use Rattle.chains.specs.Lent.{Holds}
 use Rattle.chains.proofs.Counts.{holds-cong}
-use Rattle.runs.specs.Run.{round}
+use Rattle.runs.specs.Run.{lowestFirst, round}
 use Rattle.runs.specs.First.{Bisecting}
-use Rattle.rows.specs.Rows.{Retracing}
+use Rattle.rows.specs.RoundRows.{Retracing}
 use Rattle.runs.proofs.First.{bisect-left, bisect-right}
 use Rattle.rows.proofs.Present.{few-states}
 use Rattle.rows.proofs.Splitting.{present-round}
@@ -24,7 +24,7 @@ copied c h = holds-cong c (h .cell)
 abbrev Inv-loop : tie.InvT-loop
 Inv-loop n m objective clear made starts from to last before need prey parents names block₀ earlier₀ low₀ high₀ block earlier low high =
     (low ≤ high) × (high ≤ made)
-    × ((t : Retracing n m objective clear made starts from to last before need prey parents names block₀) → Bisecting (t .game) low high × Holds n block (blockAt (round high (t .game))))
+    × ((t : Retracing n m objective clear made starts from to last before need prey parents names block₀) → Bisecting (t .game) low high × Holds n block (blockAt (round lowestFirst high (t .game))))
     × (length block ≡ length block₀) × (length earlier ≡ 512) × (made ≡ 0 → block ≡ block₀)
 
 abbrev μ-loop : tie.MeasureT-loop
@@ -42,7 +42,7 @@ first-lost-spec =
     (λ c. search needs)
     (λ c κs. (let t = c .before .before .before .before .before .before .before .before .before .before .before .before .before .before .before .before .before .pre in let inv = c .before .before .before .before .before .before .loop .inv in ((t .game, c .before .before .before .before .before .before .before .before .before .before .before .before .before .before .before .before .before .args .made, t .log, inv .1, omega (arith, c .before .before .before .before .before .loop-test .taken), copied (c .before .before .copy-row .ensures) (inv .2 t .1)), few-states (t .present))))
     (λ c. search needs)
-    (λ c κs. (let t = c .before .before .before .before .before .before .before .before .before .before .before .before .before .before .before .before .before .before .before .before .pre in let inv = c .before .before .before .before .before .before .before .before .before .loop .inv in (round _ (t .game), t .side, t .turn, t .first, present-round _ (t .present) (c .before .before .earlier-blocks .ensures (t .game) (c .before .before .before .before .before .before .before .before .before .before .before .before .before .before .before .before .before .before .before .before .args .made) (t .log) (inv .1) (copied (c .before .before .before .before .before .copy-row .ensures) (inv .2 t .1))))))
+    (λ c κs. (let t = c .before .before .before .before .before .before .before .before .before .before .before .before .before .before .before .before .before .before .before .before .pre in let inv = c .before .before .before .before .before .before .before .before .before .loop .inv in (round lowestFirst _ (t .game), t .side, t .turn, t .first, present-round _ (t .present) (c .before .before .earlier-blocks .ensures (t .game) (c .before .before .before .before .before .before .before .before .before .before .before .before .before .before .before .before .before .before .before .before .args .made) (t .log) (inv .1) (copied (c .before .before .before .before .before .copy-row .ensures) (inv .2 t .1))))))
     (λ c. omega (arith, c .before .before .before .before .before .before .before .before .before .before .loop-test .taken, c .before .before .before .before .before .before .before .before .before .before .before .loop .inv .1))
     (λ c. omega (arith, c .before .before .before .before .before .before .before .before .before .before .loop-test .taken))
     (λ c. let inv = c .before .before .before .before .before .before .before .before .before .before .before .loop .inv in

@@ -12,7 +12,7 @@ use Rattle.rows.proofs.sets.grow_anew.Tie as tie
 
 -- the states of rows that are lent are few
 sound-few : {g : Game} {side n m : ℕ} {from to need block : List ℕ} → Lent g side n m from to need block → n ≤ maxStates
-sound-few p = rw (← p .states-is) (p .accepted .few-states)
+sound-few p = rw (← p .states-is) (p .ranged .few-states)
 
 pub grow-anew-spec : {M : Type 1} → statement M
 grow-anew-spec =

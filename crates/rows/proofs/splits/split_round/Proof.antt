@@ -1,7 +1,7 @@
 -- `split_round` meets its contract.
 use native.Mathlib.Omega.{arith}
 use borrow.Author.Needs.{needs}
-use Rattle.runs.specs.Run.{splitGame}
+use Rattle.runs.specs.Run.{lowestFirst, splitGame}
 use Rattle.rows.proofs.Present.{lent, few-states, names}
 use Rattle.rows.proofs.Splitting.{hits-have, both-parts, inner-small, inner-due, next-blocks, next-present, next-lowered}
 use Rattle.rows.proofs.splits.split_round.Statement.{statement}
@@ -28,7 +28,7 @@ split-round-spec =
     let part = c .before .before .before .before .before .before .before .before .before .before .before .before .before .before .before .before .before .before .before .before .before .part-block .ensures in
     let chosen = c .before .before .before .before .before .before .before .before .inner-part .ensures in
     let here = next-present p q next (part .0) (part .1 .0) (part .1 .1 .0) (part .1 .1 .1) in
-    ((splitGame (u .game), u .side, lent here), (p .chains, part .1 .1 .0, inner-small p q next (part .0) (part .1 .0) (part .1 .1 .0) (part .1 .1 .1) chosen, inner-due p q next (part .0) (part .1 .0) (part .1 .1 .0) (part .1 .1 .1) chosen))))
+    ((splitGame lowestFirst (u .game), u .side, lent here), (p .chains, part .1 .1 .0, inner-small p q next (part .0) (part .1 .0) (part .1 .1 .0) (part .1 .1 .1) chosen, inner-due p q next (part .0) (part .1 .0) (part .1 .1 .0) (part .1 .1 .1) chosen))))
     (λ c. search needs)
     (λ c. search needs)
     (λ c. search needs)
@@ -39,4 +39,4 @@ split-round-spec =
     (λ c. search needs)
     (λ c. let part = c .before .before .before .before .before .before .before .before .before .before .before .before .before .before .before .before .before .before .before .before .before .before .before .before .before .before .before .before .before .before .part-block .ensures in
     let grown = c .before .before .before .before .before .before .before .before .grow-on .ensures in
-    (part .0, λ u next. (next-blocks (u .present) (u .lowered) next (part .0) (part .1 .0) (part .1 .1 .0) (part .1 .1 .1), next-lowered (u .present) (u .lowered) next (part .0) (part .1 .0) (part .1 .1 .0) (part .1 .1 .1) (grown .0) (grown .1 (splitGame (u .game)) (u .side) (lent (next-present (u .present) (u .lowered) next (part .0) (part .1 .0) (part .1 .1 .0) (part .1 .1 .1))))))))
+    (part .0, λ u next. (next-blocks (u .present) (u .lowered) next (part .0) (part .1 .0) (part .1 .1 .0) (part .1 .1 .1), next-lowered (u .present) (u .lowered) next (part .0) (part .1 .0) (part .1 .1 .0) (part .1 .1 .1) (grown .0) (grown .1 (splitGame lowestFirst (u .game)) (u .side) (lent (next-present (u .present) (u .lowered) next (part .0) (part .1 .0) (part .1 .1 .0) (part .1 .1 .1))))))))

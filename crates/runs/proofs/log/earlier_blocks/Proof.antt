@@ -7,7 +7,7 @@ use Rattle.game.specs.Game.{blockAt}
 use Rattle.game.specs.declared.Game.{Game}
 use Rattle.chains.specs.Lent.{Holds}
 use Rattle.chains.proofs.Filling.{places}
-use Rattle.runs.specs.Run.{round}
+use Rattle.runs.specs.Run.{lowestFirst, round}
 use Rattle.runs.specs.Log.{Log}
 use Rattle.runs.proofs.Undone.{log-undo}
 use Rattle.runs.proofs.log.earlier_blocks.Statement.{statement}
@@ -17,7 +17,7 @@ abbrev Inv-loop : tie.InvT-loop
 Inv-loop n later earlier parents names block₀ k₀ block k =
     (earlier ≤ k)
     × (k ≤ later)
-    × ((g : Game) (made : ℕ) → Log g n made parents names → later ≤ made → Holds n block₀ (blockAt (round later g)) → Holds n block (blockAt (round k g)))
+    × ((g : Game) (made : ℕ) → Log g n made parents names → later ≤ made → Holds n block₀ (blockAt (round lowestFirst later g)) → Holds n block (blockAt (round lowestFirst k g)))
     × (length block ≡ length block₀)
 
 abbrev μ-loop : tie.MeasureT-loop

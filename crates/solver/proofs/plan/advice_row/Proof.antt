@@ -7,7 +7,7 @@ use Rattle.game.specs.Limits.{maxStates}
 use Rattle.game.specs.Rows.{blank, Cells}
 use Rattle.game.proofs.Rows.{cells-store, blank-length, blank-at}
 use Rattle.chains.proofs.Filling.{places}
-use Rattle.solver.specs.Plan.{noMove}
+use Rattle.arena.specs.Plan.{noMove}
 use Rattle.solver.specs.Work.{lowestGood}
 use Rattle.solver.proofs.Advice.{good-none, good-more, good-same}
 use Rattle.solver.proofs.plan.advice_row.Statement.{statement}

@@ -1,9 +1,0 @@
--- `word_at` meets its contract.
-use borrow.Author.Needs.{needs}
-use Rattle.file.specs.Layout.{word}
-use Rattle.file.proofs.word_at.Statement.{statement}
-use Rattle.file.proofs.word_at.Tie as tie
-
-pub word-at-spec : {M : Type 1} → statement M
-unfolding word
-word-at-spec = tie.close (tie.spec (λ c. search needs) (λ c. search needs) (λ c. search needs) (λ c κs. search needs) (λ c. search needs))
