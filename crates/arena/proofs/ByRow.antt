@@ -6,7 +6,7 @@ use lib.Dec.{T, eqb}
 use borrow.Author.Tests.{eq-eqb, ne-eqb}
 use Rattle.arena.specs.Sets.{Set, least}
 use Rattle.arena.specs.Arena.{Side, Arena, Live}
-use Rattle.arena.specs.Play.{Strategy, Play, past, Follows, outcome}
+use Rattle.arena.specs.Play.{Strategy, Play, past, outcome}
 use Rattle.arena.specs.Win.{Goal, toReach, toStay, objective}
 use Rattle.arena.specs.Plan.{noMove, Advised, Obeys, Met, WinningPlan, ByRow, StrategyByRow}
 use Rattle.arena.proofs.Tests.{cond-ind}
@@ -31,11 +31,6 @@ module _ (g : Arena) (live : Live g) (i : Side) (row : ℕ → ℕ)
   unfolding rowStrategy
   rowStrategy-takes h s l n = rw (ne-eqb (row s) noMove n)
 
--- a play that follows a strategy by the row follows the row
-pub by-row-obeys : (g : Arena) (i : Side) (row : ℕ → ℕ) (σ : Strategy g i) → ByRow g i row σ
-    → (p : ℕ → ℕ) → Play g p → Follows g i σ p → Obeys g i row p
-by-row-obeys g i row σ by p pl fo j m n = fo j m ∙ by (past p j) (p j) (pl .inside j) n
-
 -- what is met in time is met
 pub met : (n : ℕ) (o : Goal) (A : Set) (p : ℕ → ℕ) → Met n o A p → objective o A p
 met n toReach A p h = (h .0, h .2)
@@ -54,7 +49,7 @@ module _ (g : Arena) (i : Side) (o : Goal) (A from : Set) (row : ℕ → ℕ) (p
         let p = outcome g i σ τ s in
         let pl = outcome-play g i σ τ s l in
         met (g .size) o A p (plan .wins p pl (rw (outcome-start g i σ τ s) h)
-        (by-row-obeys g i row σ (rowStrategy-takes g live i row (plan .legal)) p pl (outcome-mine g i σ τ s))),
+        (λ j m n. outcome-mine g i σ τ s j m ∙ rowStrategy-takes g live i row (plan .legal) (past p j) (p j) (pl .inside j) n)),
   )
 
   -- a row that holds the same for every state wins as well

@@ -8,9 +8,9 @@ use lib.Dec.{T, lt→ltb}
 use Rattle.arena.specs.Sets.{Set, compl, imp, some, every}
 use Rattle.arena.specs.Arena.{Side, one, two, other, same, Arena, mine, Live, forced, flip}
 use Rattle.arena.specs.Passes.{grow, rank, nearer}
-use Rattle.arena.proofs.Tests.{decT, cond-cases, cond-yes, cond-no, or-cases, imp-not, and-not, not-not}
-use Rattle.arena.proofs.Sets.{Sub, compl-compl, some-intro, not-some, not-every, meets-in, meets-out, within-in, within-out, count-pos}
-use Rattle.arena.proofs.Passes.{Mono, grow-rest, rank-le}
+use Rattle.arena.proofs.Tests.{decT, cond-ind, cond-mono, or-elim, imp-not, and-not, not-not}
+use Rattle.arena.proofs.Sets.{Sub, compl-compl, some-intro, not-some, not-every, meets-out, within-out, meets-sub, within-sub, count-pos}
+use Rattle.arena.proofs.Passes.{Mono, grow-least, grow-rest, rank-le}
 
 -- ## Sides and turns
 
@@ -65,27 +65,16 @@ module _ (g : Arena) (i : Side) where
   -- a forced step is a move of side i's own, or all moves of its opponent
   pub forced-out : (X : Set) (s : ℕ) → T (forced g i X s) → (T (mine g i s) × Can g X s) ⊎ ((T (mine g i s) → ⊥) × Must g X s)
   unfolding forced
-  forced-out X s h = elim (cond-cases (mine g i s) (some (g .size) (λ t. g .move s t && X t)) (every (g .size) (λ t. imp (g .move s t) (X t))) h) [
-    | inl a ↦ inl (a .0, meets-out (g .size) (g .move s) X (a .1))
-    | inr a ↦ inr (a .0, within-out (g .size) (g .move s) X (a .1))
-  ]
-
-  -- at its own state side i forces a step by one move into X
-  pub forced-can : (X : Set) (s : ℕ) → T (mine g i s) → Can g X s → T (forced g i X s)
-  unfolding forced
-  forced-can X s m w = rw (cond-yes (mine g i s) _ _ m) (meets-in (g .size) (g .move s) X (w .0) (w .1) (w .2) (w .3))
-
-  -- at its opponent's state side i forces a step where all moves lead into X
-  pub forced-must : (X : Set) (s : ℕ) → (T (mine g i s) → ⊥) → Must g X s → T (forced g i X s)
-  unfolding forced
-  forced-must X s m w = rw (cond-no (mine g i s) _ _ m) (within-in (g .size) (g .move s) X w)
+  forced-out X s =
+      cond-ind (λ b. T b → (T (mine g i s) × Can g X s) ⊎ ((T (mine g i s) → ⊥) × Must g X s)) (mine g i s) _ _
+      (λ m h. inl (m, meets-out (g .size) (g .move s) X h)) (λ m h. inr (m, within-out (g .size) (g .move s) X h))
 
   -- into a larger set a step is forced from no fewer states
   pub forced-mono : Mono (g .size) (forced g i)
-  forced-mono X Y h s _ x = elim (forced-out X s x) [
-    | inl a ↦ forced-can Y s (a .0) (let w = a .1 in (w .0, w .1, w .2, h (w .0) (w .1) (w .3)))
-    | inr a ↦ forced-must Y s (a .0) (λ t l m. h t l (a .1 t l m))
-  ]
+  unfolding forced
+  forced-mono X Y h s _ =
+      cond-mono (mine g i s) _ _ _ _ (meets-sub (g .size) (g .move s) X (g .move s) Y (λ t l m. m) h)
+      (within-sub (g .size) (g .move s) X (g .move s) Y (λ t l m. m) h)
 
   -- the opponent forces a step out of X exactly where side i cannot force one into X
   pub forced-other : (X : Set) (s : ℕ) → forced g (other i) (compl X) s ≡ not (forced g i X s)
@@ -112,25 +101,20 @@ module _ (g : Arena) (i : Side) (F : Set → Set) (sound : (X : Set) → Sub (g 
     where
       go : (r : ℕ) → rank (g .size) F A s ≡ r → rank (g .size) F A s ≤ k → T (A s) ⊎ T (forced g i (nearer (g .size) F A s) s)
       go zero e m = inl (rank-le (g .size) F A 0 s zero-le .0 (omega arith))
-      go (suc q) e m = elim (or-cases (grow F A q s) (F (grow F A q) s) (rank-le (g .size) F A (suc q) s (omega arith) .0 (omega arith))) [
-        | inl low ↦ absurd (let c = rank-le (g .size) F A q s (omega arith) .1 low in omega arith)
-        | inr f ↦ inr (forced-mono g i (grow F A q) (nearer (g .size) F A s)
-            (λ t _ x. let c = rank-le (g .size) F A q t (omega arith) .1 x in omega (arith, lt→ltb))
-            s l (sound (grow F A q) s l f))
-      ]
+      go (suc q) e m =
+          or-elim (grow F A q s) (F (grow F A q) s) (λ low. absurd (let c = rank-le (g .size) F A q s (omega arith) .1 low in omega arith))
+          (λ f. inr (forced-mono g i (grow F A q) (nearer (g .size) F A s)
+          (λ t _ x. let c = rank-le (g .size) F A q t (omega arith) .1 x in omega (arith, lt→ltb)) s l (sound (grow F A q) s l f)))
+          (rank-le (g .size) F A (suc q) s (omega arith) .0 (omega arith))
 
   module _ (live : Live g) (mono : Mono (g .size) F) where
     -- from an empty set nothing grows
-    pub grow-empty : (T (some (g .size) A) → ⊥) → (k s : ℕ) → s < g .size → T (grow F A k s) → ⊥
-    unfolding grow
-    grow-empty o zero s l h = o (some-intro (g .size) A s l h)
-    grow-empty o (suc k) s l h = elim (or-cases (grow F A k s) (F (grow F A k) s) h) [
-      | inl x ↦ grow-empty o k s l x
-      | inr x ↦ elim (forced-out g i (grow F A k) s (sound (grow F A k) s l x)) [
-        | inl a ↦ (let w = a .1 in grow-empty o k (w .0) (w .1) (w .3))
-        | inr a ↦ (let w = live s l in grow-empty o k (w .0) (w .1) (a .1 (w .0) (w .1) (w .2)))
-      ]
-    ]
+    grow-empty : (T (some (g .size) A) → ⊥) → (k : ℕ) → Sub (g .size) (grow F A k) (λ s. false)
+    grow-empty o = grow-least (g .size) F mono A (λ s. false) (λ s l a. o (some-intro (g .size) A s l a)) (λ s l x.
+        elim (forced-out g i (λ t. false) s (sound (λ t. false) s l x)) [
+          | inl a ↦ a .1 .3
+          | inr a ↦ (let w = live s l in a .1 (w .0) (w .1) (w .2))
+        ])
 
     -- one pass fewer than there are states brings in all that any number of passes does
     pub soon : (k s : ℕ) → s < g .size → T (grow F A k s) → T (grow F A (pred (g .size)) s)

@@ -1,15 +1,14 @@
 -- The lowest member of a set, as a search that counts upward meets it.
 use mathlib.Core.Path.{_≡_, refl, sym}
 use mathlib.Core.Bool.{true, false}
-use mathlib.Core.Logic.{⊎-elim}
 use Prim.Native.Nat.{ℕ, zero, suc, _≤_, _<_, zero-le, suc-le-suc}
 use native.Mathlib.Nat.{le-refl}
-use native.Mathlib.Omega.{arith}
+use native.Mathlib.Omega.{arith, by-contra}
 use lib.Dec.{T}
 use Rattle.arena.specs.Sets.{Set, some, least}
-use Rattle.arena.proofs.Tests.{holds, fails, is-true, is-false, cond-ind}
+use Rattle.arena.proofs.Tests.{holds, fails, is-false, cond-ind}
 use Rattle.arena.proofs.Sets.{some-intro, least-in, least-le, least-hit, least-some}
-use Rattle.arena.proofs.Loops.{le-or-lt, some-done}
+use Rattle.arena.proofs.Loops.{some-done}
 
 -- the lowest member below n is at most n
 least-bound : (n : ℕ) (X : Set) → least n X ≤ n
@@ -22,9 +21,7 @@ least-bound (suc n) X =
 -- where none below s is a member, the lowest is not below s
 least-above : (n s : ℕ) (X : Set) → s ≤ n → some s X ≡ false → s ≤ least n X
 least-above n s X l none =
-    ⊎-elim (λ (le : s ≤ least n X). le)
-    (λ (lt : least n X < s). absurd (fails (some s X) none (some-intro s X (least n X) lt (least-hit n X (omega arith)))))
-    (le-or-lt s (least n X))
+    by-contra s (least n X) (λ lt. fails (some s X) none (some-intro s X (least n X) lt (least-hit n X (omega arith))))
 
 -- the search finds a member
 pub least-found : (n s : ℕ) (X : Set) → s < n → some s X ≡ false → X s ≡ true → s ≡ least n X
@@ -39,12 +36,6 @@ least-done k n X none l h =
 -- no lowest member below n: there is none
 pub least-none : (n : ℕ) (X : Set) → least n X ≡ n → some n X ≡ false
 least-none n X e = is-false (some n X) (λ h. let w = least-some n X h in omega arith)
-
--- a lowest member below n: there is some
-pub least-one : (n : ℕ) (X : Set) → (least n X ≡ n → ⊥) → some n X ≡ true
-least-one n X ne =
-    let b = least-bound n X in
-    is-true (some n X) (⊎-elim (λ (h : n ≤ least n X). absurd (ne (omega arith))) (λ (h : least n X < n). some-intro n X (least n X) h (least-hit n X h)) (le-or-lt n (least n X)))
 
 -- a member that is not above any other is the lowest
 pub least-unique : (n : ℕ) (X : Set) (v : ℕ) → v < n → T (X v) → ((s : ℕ) → s < n → T (X s) → v ≤ s) → least n X ≡ v

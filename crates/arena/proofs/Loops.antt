@@ -51,10 +51,6 @@ every-still n X a b = every-more n X ∙ rw (a, b)
 pub some-found : (n : ℕ) (X : Set) (k : ℕ) → k < n → X k ≡ true → some n X ≡ true
 some-found n X k l e = is-true (some n X) (some-intro n X k l (holds (X k) e))
 
--- a number outside decides that not every one is a member
-pub every-failed : (n : ℕ) (X : Set) (k : ℕ) → k < n → X k ≡ false → every n X ≡ false
-every-failed n X k l e = is-false (every n X) (λ h. fails (X k) e (every-elim n X h k l))
-
 -- the early end of a search: a call gave true for k
 pub some-true : (n : ℕ) (X : Set) (k : ℕ) (r : Bool) → k < n → r ≡ X k → r ≡ true → true ≡ some n X
 some-true n X k r l q e = sym (some-found n X k l (sym q ∙ e))
@@ -65,7 +61,7 @@ some-done k n X e l h = let q : k ≡ n = omega arith in sym (rw q at e)
 
 -- the early end of a test: k is no member
 pub every-false : (n : ℕ) (X : Set) (k : ℕ) → k < n → X k ≡ false → false ≡ every n X
-every-false n X k l e = sym (every-failed n X k l e)
+every-false n X k l e = sym (is-false (every n X) (λ h. fails (X k) e (every-elim n X h k l)))
 
 -- the last turn of a test is over, and nothing failed
 pub every-done : (k n : ℕ) (X : Set) → every k X ≡ true → k ≤ n → n ≤ k → true ≡ every n X

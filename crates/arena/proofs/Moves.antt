@@ -2,14 +2,14 @@
 use Prim.Native.Nat.{ℕ, zero, suc, _<_, zero-le}
 use mathlib.Core.Path.{_≡_, sym, fun-ext}
 use mathlib.Core.Bool.{not}
-use mathlib.Core.Logic.{inl, inr, _↔_}
+use mathlib.Core.Logic.{_↔_}
 use native.Mathlib.Omega.{arith}
 use lib.Dec.{T, T-not, not-T}
 use Rattle.arena.specs.Sets.{Set, compl}
 use Rattle.arena.specs.Arena.{Side, other, Arena, forced}
 use Rattle.arena.specs.Win.{Goal, toReach, toStay, reachIn, stayFor, ByMoves}
 use Rattle.arena.specs.Passes.{grow}
-use Rattle.arena.proofs.Tests.{or-l, or-r, or-cases, not-not, nor}
+use Rattle.arena.proofs.Tests.{or-l, or-r, or-elim, or-mono, not-not, nor}
 use Rattle.arena.proofs.Sets.{Sub}
 use Rattle.arena.proofs.Passes.{grow-le, grow-rest}
 use Rattle.arena.proofs.Forced.{forced-mono, forced-dual}
@@ -17,14 +17,12 @@ use Rattle.arena.proofs.Win.{reach, hold, region}
 
 module _ (g : Arena) (i : Side) (A : Set) where
   -- what wins in k moves wins in one more
-  pub reachIn-more : (k : ℕ) → Sub (g .size) (reachIn g i A k) (reachIn g i A (suc k))
+  reachIn-more : (k : ℕ) → Sub (g .size) (reachIn g i A k) (reachIn g i A (suc k))
   unfolding reachIn
   reachIn-more zero s l x = or-l (A s) (forced g i (reachIn g i A 0) s) x
-  reachIn-more (suc k) s l x = elim (or-cases (A s) (forced g i (reachIn g i A k) s) x) [
-    | inl a ↦ or-l (A s) (forced g i (reachIn g i A (suc k)) s) a
-    | inr f ↦ or-r (A s) (forced g i (reachIn g i A (suc k)) s)
-        (forced-mono g i (reachIn g i A k) (reachIn g i A (suc k)) (reachIn-more k) s l f)
-  ]
+  reachIn-more (suc k) s l x =
+      let R = reachIn g i A in
+      or-mono (A s) (forced g i (R k) s) (A s) (forced g i (R (suc k)) s) (λ a. a) (forced-mono g i (R k) (R (suc k)) (reachIn-more k) s l) x
 
   -- what k passes bring in wins in k moves, and the other way round
   both-ways : (k : ℕ) → Sub (g .size) (grow (forced g i) A k) (reachIn g i A k) × Sub (g .size) (reachIn g i A k) (grow (forced g i) A k)
@@ -34,18 +32,12 @@ module _ (g : Arena) (i : Side) (A : Set) where
       let ih = both-ways k in
       let P = grow (forced g i) A k in
       let R = reachIn g i A k in (
-        (λ s l x. elim (or-cases (P s) (forced g i P s) x) [
-          | inl y ↦ reachIn-more k s l (ih .0 s l y)
-          | inr f ↦ or-r (A s) (forced g i R s) (forced-mono g i P R (ih .0) s l f)
-        ]),
-        λ s l x. elim (or-cases (A s) (forced g i R s) x) [
-          | inl a ↦ grow-le (forced g i) A 0 (suc k) s zero-le a
-          | inr f ↦ or-r (P s) (forced g i P s) (forced-mono g i R P (ih .1) s l f)
-        ],
+        (λ s l. or-elim (P s) (forced g i P s) (λ y. reachIn-more k s l (ih .0 s l y)) (λ f. or-r (A s) (forced g i R s) (forced-mono g i P R (ih .0) s l f))),
+        λ s l. or-mono (A s) (forced g i R s) (P s) (forced g i P s) (grow-le (forced g i) A 0 k s zero-le) (forced-mono g i R P (ih .1) s l),
       )
 
   -- the states that win reach in some number of moves are those of reach
-  pub reach-moves : (s : ℕ) → s < g .size → ((k : ℕ) × T (reachIn g i A k s)) ↔ T (reach g i A s)
+  reach-moves : (s : ℕ) → s < g .size → ((k : ℕ) × T (reachIn g i A k s)) ↔ T (reach g i A s)
   unfolding reach
   reach-moves s l = (
     (λ w. grow-rest (g .size) (forced g i) (forced-mono g i) A (g .size) (omega arith) (w .0) s l (both-ways (w .0) .1 s l (w .1))),
@@ -53,7 +45,7 @@ module _ (g : Arena) (i : Side) (A : Set) where
   )
 
   -- side i keeps the play in A for k moves exactly where its opponent cannot leave A within k
-  pub stayFor-other : (k : ℕ) → stayFor g i A k ≡ compl (reachIn g (other i) (compl A) k)
+  stayFor-other : (k : ℕ) → stayFor g i A k ≡ compl (reachIn g (other i) (compl A) k)
   unfolding stayFor reachIn
   stayFor-other zero = fun-ext (λ s. sym (not-not (A s)))
   stayFor-other (suc k) =
@@ -62,7 +54,7 @@ module _ (g : Arena) (i : Side) (A : Set) where
 
 module _ (g : Arena) (i : Side) (A : Set) where
   -- the states where side i can keep the play in A for every number of moves are those of hold
-  pub hold-moves : (s : ℕ) → s < g .size → ((k : ℕ) → T (stayFor g i A k s)) ↔ T (hold g i A s)
+  hold-moves : (s : ℕ) → s < g .size → ((k : ℕ) → T (stayFor g i A k s)) ↔ T (hold g i A s)
   unfolding hold
   hold-moves s l =
       let R = reachIn g (other i) (compl A) in

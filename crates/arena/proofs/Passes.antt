@@ -1,5 +1,5 @@
 -- Laws of passes: they come to rest, dropping is growing seen from outside, and a falling rank leads into the set.
-use Prim.Native.Nat.{ℕ, zero, suc, _+_, _≤_, _<_}
+use Prim.Native.Nat.{ℕ, zero, suc, _+_, _≤_, _<_, zero-le}
 use mathlib.Core.Path.{_≡_, sym, subst, fun-ext}
 use mathlib.Core.Bool.{not}
 use mathlib.Core.Logic.{_⊎_, inl, inr, _↔_}
@@ -9,7 +9,7 @@ use native.Mathlib.Omega.{arith}
 use lib.Dec.{T, ltb→lt}
 use Rattle.arena.specs.Sets.{Set, compl, count}
 use Rattle.arena.specs.Passes.{grow, shrink, rank, nearer}
-use Rattle.arena.proofs.Tests.{T-ext, or-l, or-r, or-cases, nor}
+use Rattle.arena.proofs.Tests.{T-ext, or-l, or-r, or-elim, or-mono, nor}
 use Rattle.arena.proofs.Sets.{Sub, compl-compl, count-le, count-grows, least-le, least-hit}
 
 -- a monotone operator: from a larger set it makes a larger one
@@ -32,10 +32,9 @@ module _ (n : ℕ) (F : Set → Set) (mono : Mono n F) (A : Set) where
   -- after a pass that adds nothing the next adds nothing
   pub grow-still : (k : ℕ) → Sub n (grow F A (suc k)) (grow F A k) → Sub n (grow F A (suc (suc k))) (grow F A (suc k))
   unfolding grow
-  grow-still k h s l x = elim (or-cases (grow F A (suc k) s) (F (grow F A (suc k)) s) x) [
-    | inl y ↦ y
-    | inr y ↦ or-r (grow F A k s) (F (grow F A k) s) (mono (grow F A (suc k)) (grow F A k) h s l y)
-  ]
+  grow-still k h s l =
+      or-elim (grow F A (suc k) s) (F (grow F A (suc k)) s) (λ y. y)
+      (λ y. or-r (grow F A k s) (F (grow F A k) s) (mono (grow F A (suc k)) (grow F A k) h s l y))
 
   -- pass k + 1 adds nothing, or each pass so far has added a member
   grow-counts : (k : ℕ) → Sub n (grow F A (suc k)) (grow F A k) ⊎ (count n A + suc k ≤ count n (grow F A (suc k)))
@@ -56,18 +55,23 @@ module _ (n : ℕ) (F : Set → Set) (mono : Mono n F) (A : Set) where
     | inr big ↦ absurd (let c = count-le n (grow F A (suc k)) in omega arith)
   ]
 
-  -- once a pass adds nothing, all later passes leave the set as it is
-  pub grow-stop : (k : ℕ) → Sub n (grow F A (suc k)) (grow F A k) → (m : ℕ) → k ≤ m → (s : ℕ) → s < n → grow F A m s ≡ grow F A k s
-  grow-stop k h m km s l = T-ext (grow F A m s) (grow F A k s) (down s l .1) (grow-le F A k m s km)
-    where
-      down : (s : ℕ) → s < n → (T (grow F A (suc m) s) → T (grow F A m s)) × (T (grow F A m s) → T (grow F A k s))
-      down = le-ind (λ m. (s : ℕ) → s < n → (T (grow F A (suc m) s) → T (grow F A m s)) × (T (grow F A m s) → T (grow F A k s)))
-          (λ s l. (h s l, λ x. x))
-          (λ m _ ih s l. (grow-still m (λ s l. ih s l .0) s l, λ x. ih s l .1 (ih s l .0 x))) m km
+  -- F of what is there after so many passes is there
+  pub grow-closed : (k : ℕ) → n ≤ count n A + k → Sub n (F (grow F A k)) (grow F A k)
+  unfolding grow
+  grow-closed k h s l x = grow-stable k h s l (or-r (grow F A k s) (F (grow F A k) s) x)
+
+  -- what grows from A lies in each set that holds A and F of itself
+  pub grow-least : (B : Set) → Sub n A B → Sub n (F B) B → (k : ℕ) → Sub n (grow F A k) B
+  unfolding grow
+  grow-least B ab fb zero s l = ab s l
+  grow-least B ab fb (suc k) s l =
+      let ih = grow-least B ab fb k in
+      or-elim (grow F A k s) (F (grow F A k) s) (ih s l) (λ y. fb s l (mono (grow F A k) B ih s l y))
 
   -- as many passes as there are numbers outside A bring in all that any number of passes does
   pub grow-rest : (k : ℕ) → n ≤ count n A + k → (m : ℕ) → Sub n (grow F A m) (grow F A k)
-  grow-rest k b m s l h = subst T (grow-stop k (grow-stable k b) (m + k) (omega arith) s l) (grow-le F A m (m + k) s (omega arith) h)
+  unfolding grow
+  grow-rest k b = grow-least (grow F A k) (λ s l. grow-le F A 0 k s zero-le) (grow-closed k b)
 
 -- a smaller operator grows a smaller set into a smaller one
 pub grow-sub : (n : ℕ) (F G : Set → Set) → ((X : Set) → Sub n (F X) (G X)) → Mono n G → (A B : Set) → Sub n A B → (k : ℕ) → Sub n (grow F A k) (grow G B k)
@@ -75,23 +79,15 @@ unfolding grow
 grow-sub n F G fg mono A B ab zero s l x = ab s l x
 grow-sub n F G fg mono A B ab (suc k) s l x =
     let ih = grow-sub n F G fg mono A B ab k in
-    elim (or-cases (grow F A k s) (F (grow F A k) s) x) [
-      | inl y ↦ or-l (grow G B k s) (G (grow G B k) s) (ih s l y)
-      | inr y ↦ or-r (grow G B k s) (G (grow G B k) s) (mono (grow F A k) (grow G B k) ih s l (fg (grow F A k) s l y))
-    ]
+    or-mono (grow F A k s) (F (grow F A k) s) (grow G B k s) (G (grow G B k) s) (ih s l)
+    (λ y. mono (grow F A k) (grow G B k) ih s l (fg (grow F A k) s l y)) x
 
 -- from any start between A and what grows from it the same set grows
 pub grow-between : (n : ℕ) (F : Set → Set) → Mono n F → (A X : Set) → Sub n A X → Sub n X (grow F A n)
     → (s : ℕ) → s < n → grow F X n s ≡ grow F A n s
-unfolding grow
-grow-between n F mono A X ax xa s l = T-ext (grow F X n s) (grow F A n s) (held n s l) (grow-sub n F F (λ Y t m x. x) mono A X ax n s l)
-  where
-    held : (k : ℕ) → Sub n (grow F X k) (grow F A n)
-    held zero s l x = xa s l x
-    held (suc k) s l x = elim (or-cases (grow F X k s) (F (grow F X k) s) x) [
-      | inl y ↦ held k s l y
-      | inr y ↦ grow-stable n F mono A n (omega arith) s l (or-r (grow F A n s) (F (grow F A n) s) (mono (grow F X k) (grow F A n) (held k) s l y))
-    ]
+grow-between n F mono A X ax xa s l =
+    T-ext (grow F X n s) (grow F A n s) (grow-least n F mono X (grow F A n) xa (grow-closed n F mono A n (omega arith)) n s l)
+    (grow-sub n F F (λ Y t m x. x) mono A X ax n s l)
 
 -- ## Dropping
 

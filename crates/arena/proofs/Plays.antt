@@ -88,17 +88,12 @@ into g X s t = g .move s t && X t
 unfoldable pub best : Arena → Set → ℕ → ℕ
 best g X s = cond (some (g .size) (into g X s)) (least (g .size) (into g X s)) (least (g .size) (g .move s))
 
--- where s has a move into X, the lowest such move leads into X
-pub lowest-in : (g : Arena) (X : Set) (s : ℕ) → Can g X s → T (X (least (g .size) (into g X s)))
-lowest-in g X s w =
-    let t = least (g .size) (into g X s) in
-    and-r (g .move s t) (X t) (least-some (g .size) (into g X s) (meets-in (g .size) (g .move s) X (w .0) (w .1) (w .2) (w .3)) .1)
-
 -- where s has a move into X, the best move leads into X
 pub best-in : (g : Arena) (X : Set) (s : ℕ) → Can g X s → T (X (best g X s))
 unfolding best
-best-in g X s w = cond-ind (λ r. T (X r)) (some (g .size) (into g X s)) _ _ (λ _. lowest-in g X s w)
-    (λ o. absurd (o (meets-in (g .size) (g .move s) X (w .0) (w .1) (w .2) (w .3))))
+best-in g X s w =
+    let m = meets-in (g .size) (g .move s) X (w .0) (w .1) (w .2) (w .3) in
+    rw (cond-yes (some (g .size) (into g X s)) _ _ m) (and-r (g .move s _) (X _) (least-some (g .size) (into g X s) m .1))
 
 -- where s has a move, the best move is one
 pub best-legal : (g : Arena) (X : Set) (s : ℕ) → (t : ℕ) × (t < g .size) × T (g .move s t) → (best g X s < g .size) × T (g .move s (best g X s))

@@ -27,10 +27,8 @@ decided g live i o A s l = elim (decT (region g i o A s)) [
 -- what side i cannot win its opponent can spoil, and nobody can do both
 pub spoiled : (g : Arena) → Live g → (i : Side) (o : Goal) (A : Set) (s : ℕ) → s < g .size
     → (Winning g i (objective o A) s → ⊥) ↔ Spoils g i (objective o A) s
-spoiled g live i o A s l = (
-  (λ n. elim (decided g live i o A s l) [ inl w ↦ absurd (n w) | inr v ↦ v ]),
-  λ v w. not-both g i (objective o A) s w v,
-)
+spoiled g live i o A s l =
+    ((λ n. outside-spoils g live i o A s l (λ h. n (region-wins g live i o A s l h))), λ v w. not-both g i (objective o A) s w v)
 
 -- demand 3: flip whose turn each state is, take the other states as target, and turn reach into stay or stay into reach;
 -- the states side i can win are then exactly those it could not win before

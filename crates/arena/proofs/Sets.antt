@@ -3,11 +3,11 @@ use Prim.Native.Nat.{ℕ, zero, suc, _≤_, _<_, zero-le, suc-le-suc}
 use mathlib.Core.Path.{_≡_, refl, sym, ap, _∙_, fun-ext}
 use mathlib.Core.Bool.{Bool, true, false, not, _&&_}
 use mathlib.Core.Logic.{_⊎_, inl, inr}
-use native.Mathlib.Nat.{le-refl, lt-suc-self, le-of-suc-le-suc, not-suc-le-zero}
+use native.Mathlib.Nat.{le-refl, lt-suc-self, le-of-suc-le-suc, not-suc-le-zero, eq-or-lt-of-le}
 use native.Mathlib.Omega.{arith}
 use lib.Dec.{T}
 use Rattle.arena.specs.Sets.{Set, compl, imp, some, every, bit, count, least}
-use Rattle.arena.proofs.Tests.{and-intro, and-l, and-r, or-l, or-r, or-cases, imp-intro, imp-elim, not-not, nor, cond-ind}
+use Rattle.arena.proofs.Tests.{and-intro, and-l, and-r, or-l, or-r, or-elim, imp-intro, imp-elim, not-not, nor, cond-ind}
 
 -- inclusion: the members of X below n lie in Y
 abbrev pub Sub : ℕ → Set → Set → Type 0
@@ -19,13 +19,7 @@ compl-compl X = fun-ext (λ s. not-not (X s))
 
 -- a number below n + 1 is n or lies below n
 pub lt-suc-cases : (s n : ℕ) → s < suc n → (s ≡ n) ⊎ (s < n)
-lt-suc-cases zero zero h = inl refl
-lt-suc-cases zero (suc n) h = inr (suc-le-suc zero-le)
-lt-suc-cases (suc s) zero h = absurd (not-suc-le-zero (le-of-suc-le-suc h))
-lt-suc-cases (suc s) (suc n) h = elim (lt-suc-cases s n (le-of-suc-le-suc h)) [
-  | inl e ↦ inl (ap suc e)
-  | inr l ↦ inr (suc-le-suc l)
-]
+lt-suc-cases s n h = eq-or-lt-of-le (le-of-suc-le-suc h)
 
 -- ## Some and every
 
@@ -41,10 +35,7 @@ some-intro (suc n) X s h x = elim (lt-suc-cases s n h) [
 -- where there is some, here is a member
 pub some-elim : (n : ℕ) (X : Set) → T (some n X) → (s : ℕ) × (s < n) × T (X s)
 unfolding some
-some-elim (suc n) X h = elim (or-cases (some n X) (X n) h) [
-  | inl r ↦ (let t = some-elim n X r in (t .0, omega arith, t .2))
-  | inr x ↦ (n, lt-suc-self n, x)
-]
+some-elim (suc n) X h = or-elim (some n X) (X n) (λ r. let t = some-elim n X r in (t .0, omega arith, t .2)) (λ x. (n, lt-suc-self n, x)) h
 
 -- if each number below n lies in X, every one does
 pub every-intro : (n : ℕ) (X : Set) → ((s : ℕ) → s < n → T (X s)) → T (every n X)
@@ -79,6 +70,10 @@ some-mono n X Y h x = let w = some-elim n X x in some-intro n Y (w .0) (w .1) (h
 pub every-mono : (n : ℕ) (X Y : Set) → Sub n X Y → T (every n X) → T (every n Y)
 every-mono n X Y h x = every-intro n Y (λ s l. h s l (every-elim n X x s l))
 
+-- where P meets Q, larger sets meet
+pub meets-sub : (n : ℕ) (P Q R S : Set) → Sub n P R → Sub n Q S → T (some n (λ t. P t && Q t)) → T (some n (λ t. R t && S t))
+meets-sub n P Q R S f g = some-mono n _ _ (λ t l x. and-intro (R t) (S t) (f t l (and-l (P t) (Q t) x)) (g t l (and-r (P t) (Q t) x)))
+
 -- a common member shows that P meets Q
 pub meets-in : (n : ℕ) (P Q : Set) (s : ℕ) → s < n → T (P s) → T (Q s) → T (some n (λ t. P t && Q t))
 meets-in n P Q s l p q = some-intro n (λ t. P t && Q t) s l (and-intro (P s) (Q s) p q)
@@ -96,6 +91,10 @@ within-in n P Q h = every-intro n (λ t. imp (P t) (Q t)) (λ t l. imp-intro (P 
 -- what passes the test of inclusion is an inclusion
 pub within-out : (n : ℕ) (P Q : Set) → T (every n (λ t. imp (P t) (Q t))) → Sub n P Q
 within-out n P Q h t l p = imp-elim (P t) (Q t) (every-elim n (λ t. imp (P t) (Q t)) h t l) p
+
+-- an inclusion of P in Q is one of a smaller set in a larger
+pub within-sub : (n : ℕ) (P Q R S : Set) → Sub n R P → Sub n Q S → T (every n (λ t. imp (P t) (Q t))) → T (every n (λ t. imp (R t) (S t)))
+within-sub n P Q R S f g h = within-in n R S (λ t l r. g t l (within-out n P Q h t l (f t l r)))
 
 -- ## Counts
 
@@ -148,21 +147,9 @@ count-grows (suc n) X Y h =
 -- a set with some member has at least one
 pub count-pos : (n : ℕ) (X : Set) → T (some n X) → 1 ≤ count n X
 unfolding some count
-count-pos (suc n) X h = elim (or-cases (some n X) (X n) h) [
-  | inl r ↦ omega (arith, count-pos n X r)
-  | inr x ↦ omega (arith, bit-mono true (X n) (λ _. x))
-]
+count-pos (suc n) X h = or-elim (some n X) (X n) (λ r. omega (arith, count-pos n X r)) (λ x. omega (arith, bit-mono true (X n) (λ _. x))) h
 
 -- ## The lowest member
-
--- where there is a member, the lowest is one
-pub least-in : (n : ℕ) (X : Set) (s : ℕ) → s < n → T (X s) → T (X (least n X))
-unfolding least
-least-in zero X s l x = absurd (not-suc-le-zero l)
-least-in (suc n) X zero l x = cond-ind (λ k. T (X k)) (X zero) zero (suc (least n (λ s. X (suc s)))) (λ h. h) (λ o. absurd (o x))
-least-in (suc n) X (suc s) l x =
-    cond-ind (λ k. T (X k)) (X zero) zero (suc (least n (λ s. X (suc s)))) (λ h. h)
-    (λ o. least-in n (λ s. X (suc s)) s (le-of-suc-le-suc l) x)
 
 -- no member is lower than the lowest
 pub least-le : (n : ℕ) (X : Set) (s : ℕ) → T (X s) → least n X ≤ s
@@ -180,6 +167,10 @@ least-hit zero X l = absurd (not-suc-le-zero l)
 least-hit (suc n) X l =
     cond-ind (λ k. k < suc n → T (X k)) (X zero) zero (suc (least n (λ s. X (suc s)))) (λ h _. h)
     (λ o m. least-hit n (λ s. X (suc s)) (le-of-suc-le-suc m)) l
+
+-- where there is a member, the lowest is one
+pub least-in : (n : ℕ) (X : Set) (s : ℕ) → s < n → T (X s) → T (X (least n X))
+least-in n X s l x = least-hit n X (omega (arith, least-le n X s x))
 
 -- where there is some member, the lowest lies below n and is one
 pub least-some : (n : ℕ) (X : Set) → T (some n X) → (least n X < n) × T (X (least n X))

@@ -1,6 +1,6 @@
 -- Laws of tests. `T b` has an element exactly where the test b is true.
 use mathlib.Core.Path.{_≡_, refl}
-use mathlib.Core.Bool.{Bool, true, false, not, _&&_, _||_, cond}
+use mathlib.Core.Bool.{Bool, true, false, not, _&&_, _||_, cond, Bool·beq, Bool·not-not, not-eq-not}
 use mathlib.Core.Logic.{_⊎_, inl, inr}
 use lib.Dec.{T, T-not, not-T}
 use Rattle.arena.specs.Sets.{imp}
@@ -9,6 +9,11 @@ use Rattle.arena.specs.Sets.{imp}
 pub decT : (b : Bool) → T b ⊎ (T b → ⊥)
 decT true = inl tt
 decT false = inr (λ h. h)
+
+-- a test that cannot fail holds
+pub stable : (b : Bool) → ((T b → ⊥) → ⊥) → T b
+stable true h = tt
+stable false h = h (λ x. x)
 
 -- two tests that imply each other are equal
 pub T-ext : (a b : Bool) → (T a → T b) → (T b → T a) → a ≡ b
@@ -55,10 +60,14 @@ pub or-r : (a b : Bool) → T b → T (a || b)
 or-r true b p = tt
 or-r false b p = p
 
--- a disjunction holds by one of its parts
-pub or-cases : (a b : Bool) → T (a || b) → T a ⊎ T b
-or-cases true b p = inl tt
-or-cases false b p = inr p
+-- what follows from each part of a disjunction follows from it
+pub or-elim {ℓ} : {A : Type ℓ} (a b : Bool) → (T a → A) → (T b → A) → T (a || b) → A
+or-elim true b f g p = f tt
+or-elim false b f g p = g p
+
+-- parts that imply other parts: so do the disjunctions
+pub or-mono : (a b c d : Bool) → (T a → T c) → (T b → T d) → T (a || b) → T (c || d)
+or-mono a b c d f g = or-elim a b (λ x. or-l c d (f x)) (λ y. or-r c d (g y))
 
 -- if a brings b, the implication holds
 pub imp-intro : (a b : Bool) → (T a → T b) → T (imp a b)
@@ -75,8 +84,21 @@ contra a b f y = not-T a (λ x. T-not b y (f x))
 
 -- the negation of a negation is the test itself
 pub not-not : (b : Bool) → not (not b) ≡ b
-not-not true = refl
-not-not false = refl
+not-not = Bool·not-not
+
+-- a test is like itself
+pub beq-refl : (b : Bool) → T (Bool·beq b b)
+beq-refl true = tt
+beq-refl false = tt
+
+-- tests that are alike are equal
+pub beq→eq : (a b : Bool) → T (Bool·beq a b) → a ≡ b
+beq→eq true true h = refl
+beq→eq false false h = refl
+
+-- tests that are not equal are opposite
+pub opposite : (a b : Bool) → (a ≡ b → ⊥) → a ≡ not b
+opposite a b h = not-eq-not {a = a} {b = not b} .0 (rw not-not h)
 
 -- neither of two: not one of them
 pub nor : (a b : Bool) → not a && not b ≡ not (a || b)
@@ -98,10 +120,10 @@ pub cond-ind {ℓ} : {A : Type 0} (P : A → Type ℓ) (b : Bool) (x y : A) → 
 cond-ind P true x y f g = f tt
 cond-ind P false x y f g = g (λ h. h)
 
--- a choice between two tests holds by the one chosen
-pub cond-cases : (b x y : Bool) → T (cond b x y) → (T b × T x) ⊎ ((T b → ⊥) × T y)
-cond-cases true x y h = inl (tt, h)
-cond-cases false x y h = inr ((λ k. k), h)
+-- tests that imply others: so does the choice between them
+pub cond-mono : (b x y z w : Bool) → (T x → T z) → (T y → T w) → T (cond b x y) → T (cond b z w)
+cond-mono true x y z w f g = f
+cond-mono false x y z w f g = g
 
 -- where the test holds, the first is chosen
 pub cond-yes : {A : Type 0} (b : Bool) (x y : A) → T b → cond b x y ≡ x

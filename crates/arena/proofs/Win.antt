@@ -9,11 +9,11 @@ use lib.Dec.{T, T-not, not-T}
 use Rattle.arena.specs.Sets.{Set, compl}
 use Rattle.arena.specs.Arena.{Side, other, Arena, Live, forced, flip}
 use Rattle.arena.specs.Play.{Strategy, Play, Follows, outcome}
-use Rattle.arena.specs.Win.{Objective, Reach, Stay, Goal, toReach, toStay, swapGoal, objective, Winning, Spoils}
+use Rattle.arena.specs.Win.{Objective, Goal, toReach, toStay, swapGoal, objective, Winning, Spoils}
 use Rattle.arena.specs.Passes.{grow, nearer}
-use Rattle.arena.proofs.Tests.{decT, or-r, contra, not-not}
+use Rattle.arena.proofs.Tests.{stable, contra, not-not}
 use Rattle.arena.proofs.Sets.{Sub, compl-compl}
-use Rattle.arena.proofs.Passes.{grow-le, grow-rest, descent}
+use Rattle.arena.proofs.Passes.{grow-le, grow-closed, descent}
 use Rattle.arena.proofs.Forced.{other-other, flip-forced, forced-mono, forced-dual, rank-step}
 use Rattle.arena.proofs.Plays.{outcome-play, outcome-mine, outcome-theirs, memoryless, force}
 
@@ -34,44 +34,37 @@ region g i toStay A = hold g i A
 
 module _ (g : Arena) (i : Side) (A : Set) where
   -- the target lies in reach
-  pub reach-target : (s : ℕ) → T (A s) → T (reach g i A s)
+  reach-target : (s : ℕ) → T (A s) → T (reach g i A s)
   unfolding reach grow
   reach-target s x = grow-le (forced g i) A 0 (g .size) s zero-le x
 
   -- a forced step into reach starts in reach
-  pub reach-closed : Sub (g .size) (forced g i (reach g i A)) (reach g i A)
+  reach-closed : Sub (g .size) (forced g i (reach g i A)) (reach g i A)
   unfolding reach grow
-  reach-closed s l x =
-      grow-rest (g .size) (forced g i) (forced-mono g i) A (g .size) (omega arith) (suc (g .size)) s l
-      (or-r (reach g i A s) (forced g i (reach g i A) s) x)
-
-  -- the opponent holds the complement exactly outside reach
-  pub hold-other : (s : ℕ) → hold g (other i) (compl A) s ≡ not (reach g i A s)
-  unfolding hold
-  hold-other s = rw (other-other i, compl-compl A)
+  reach-closed = grow-closed (g .size) (forced g i) (forced-mono g i) A (g .size) (omega arith)
 
 module _ (g : Arena) (i : Side) (A : Set) where
   -- hold lies in the target
-  pub hold-target : (s : ℕ) → T (hold g i A s) → T (A s)
+  hold-target : (s : ℕ) → T (hold g i A s) → T (A s)
   unfolding hold
   hold-target s x = rw (not-not (A s)) at (contra (not (A s)) (reach g (other i) (compl A) s) (reach-target g (other i) (compl A) s) x)
 
   -- from hold side i can force a step into hold
-  pub hold-closed : Sub (g .size) (hold g i A) (forced g i (hold g i A))
+  hold-closed : Sub (g .size) (hold g i A) (forced g i (hold g i A))
   unfolding hold
   hold-closed s l x =
       let X = reach g (other i) (compl A) in
       rw (forced-dual g i X s) (contra (forced g (other i) X s) (X s) (reach-closed g (other i) (compl A) s l) x)
 
   -- with the turns exchanged side i reaches what its opponent did
-  pub flip-reach : reach (flip g) i A ≡ reach g (other i) A
+  flip-reach : reach (flip g) i A ≡ reach g (other i) A
   unfolding reach flip
   flip-reach = ap (λ (F : Set → Set). grow F A (g .size)) (flip-forced g i)
 
 -- the opponent wins the opposite goal exactly outside the region
 pub region-other : (g : Arena) (i : Side) (o : Goal) (A : Set) (s : ℕ) → region g (other i) (swapGoal o) (compl A) s ≡ not (region g i o A s)
 unfolding hold
-region-other g i toReach A s = hold-other g i A s
+region-other g i toReach A s = rw (other-other i, compl-compl A)
 region-other g i toStay A s = sym (not-not (reach g (other i) (compl A) s))
 
 -- with the turns exchanged side i has its opponent's region
@@ -83,18 +76,15 @@ flip-region g i toStay A = ap compl (flip-reach g (other i) (compl A))
 -- ## A strategy for each goal, and what it does to every play that follows it
 
 module _ (g : Arena) (live : Live g) (i : Side) (A : Set) where
-  -- to reach: always nearer to the target
-  unfoldable pub reacher : Strategy g i
-  reacher = memoryless g live i (nearer (g .size) (forced g i) A)
+  -- the strategy of side i for a goal: to reach, always nearer to the target; to stay, never out of hold
+  abbrev winner : Goal → Strategy g i
+  winner toReach = memoryless g live i (nearer (g .size) (forced g i) A)
+  winner toStay = memoryless g live i (λ s. hold g i A)
 
-  -- to stay: never out of hold
-  unfoldable pub keeper : Strategy g i
-  keeper = memoryless g live i (λ s. hold g i A)
-
-  -- a play that follows the reacher from reach comes into A
-  pub reacher-plays : (p : ℕ → ℕ) → Play g p → Follows g i reacher p → T (reach g i A (p 0)) → Reach A p
-  unfolding reach reacher
-  reacher-plays p pl fo h =
+  -- a play that follows that strategy from the region meets the goal
+  winner-plays : (o : Goal) (p : ℕ → ℕ) → Play g p → Follows g i (winner o) p → T (region g i o A (p 0)) → objective o A p
+  unfolding reach
+  winner-plays toReach p pl fo h =
       let m = descent (g .size) (forced g i) A p
       (λ j k b x. elim (rank-step g i (forced g i) (λ X s _ y. y) A k (p j) b (pl .inside j) x) [
         | inl a ↦ inl a
@@ -102,30 +92,16 @@ module _ (g : Arena) (live : Live g) (i : Side) (A : Set) where
       ])
       (g .size) 0 (le-refl (g .size)) h in
       (m .0, m .3)
-
-  -- a play that follows the keeper from hold stays in A
-  pub keeper-plays : (p : ℕ → ℕ) → Play g p → Follows g i keeper p → T (hold g i A (p 0)) → Stay A p
-  unfolding keeper
-  keeper-plays p pl fo h k = hold-target g i A (p k) (held k)
+  winner-plays toStay p pl fo h = λ k. hold-target g i A (p k) (held k)
     where
       held : (k : ℕ) → T (hold g i A (p k))
       held zero = h
       held (suc k) = force g live i (λ s. hold g i A) p pl fo k (hold-closed g i A (p k) (pl .inside k) (held k))
 
-  -- the strategy of side i for a goal
-  abbrev pub winner : Goal → Strategy g i
-  winner toReach = reacher
-  winner toStay = keeper
-
-  -- a play that follows that strategy from the region meets the goal
-  pub winner-plays : (o : Goal) (p : ℕ → ℕ) → Play g p → Follows g i (winner o) p → T (region g i o A (p 0)) → objective o A p
-  winner-plays toReach = reacher-plays
-  winner-plays toStay = keeper-plays
-
 -- ## Winning and spoiling
 
 -- no play meets a goal and the opposite goal for the complement
-pub opposed : (o : Goal) (A : Set) (p : ℕ → ℕ) → objective o A p → objective (swapGoal o) (compl A) p → ⊥
+opposed : (o : Goal) (A : Set) (p : ℕ → ℕ) → objective o A p → objective (swapGoal o) (compl A) p → ⊥
 opposed toReach A p w h = T-not (A (p (w .0))) (h (w .0)) (w .1)
 opposed toStay A p h w = T-not (A (p (w .0))) (w .1) (h (w .0))
 
@@ -155,7 +131,4 @@ module _ (g : Arena) (live : Live g) (i : Side) (o : Goal) (A : Set) (s : ℕ) (
 
   -- side i wins exactly in its region
   pub winning-region : Winning g i (objective o A) s ↔ T (region g i o A s)
-  winning-region = (
-    (λ w. elim (decT (region g i o A s)) [ inl h ↦ h | inr n ↦ absurd (not-both g i (objective o A) s w (outside-spoils n)) ]),
-    region-wins,
-  )
+  winning-region = ((λ w. stable (region g i o A s) (λ n. not-both g i (objective o A) s w (outside-spoils n))), region-wins)

@@ -6,7 +6,7 @@ use lib.Dec.{eqb, eqb-refl}
 use Rattle.arena.specs.Sets.{Set, compl, imp, some, every}
 use Rattle.arena.specs.Passes.{grow}
 use Rattle.arena.proofs.Tests.{imp-not, not-not}
-use Rattle.arena.proofs.Sets.{Sub, compl-compl, not-some, meets-in, meets-out, within-in, within-out}
+use Rattle.arena.proofs.Sets.{Sub, compl-compl, not-some, meets-in, within-out, meets-sub, within-sub}
 use Rattle.arena.proofs.Passes.{Mono}
 use Rattle.blocks.specs.Blocks.{inside, meets}
 
@@ -39,14 +39,12 @@ module _ (n : ℕ) (block : ℕ → ℕ) where
   -- a larger set has more blocks inside
   pub inside-mono : Mono n (inside n block)
   unfolding inside
-  inside-mono X Y h s _ x = within-in n (mates block s) Y (λ t l m. h t l (within-out n (mates block s) X x t l m))
+  inside-mono X Y h s _ = within-sub n (mates block s) X (mates block s) Y (λ t l m. m) h
 
   -- a larger set meets more blocks
   pub meets-mono : Mono n (meets n block)
   unfolding meets
-  meets-mono X Y h s _ x =
-      let w = meets-out n (mates block s) X x in
-      meets-in n (mates block s) Y (w .0) (w .1) (w .2) (h (w .0) (w .1) (w .3))
+  meets-mono X Y h s _ = meets-sub n (mates block s) X (mates block s) Y (λ t l m. m) h
 
   -- a block lies inside the complement of X exactly where it does not meet X
   pub inside-dual : (X : Set) (s : ℕ) → inside n block (compl X) s ≡ not (meets n block X s)

@@ -1,23 +1,21 @@
 -- Laws of the border: where a state is open there is a border block, and the known set parts its members.
-use Prim.Native.Nat.{ℕ, zero, suc, _≤_, _<_}
+use Prim.Native.Nat.{ℕ, _≤_, _<_}
 use mathlib.Core.Path.{_≡_, ap, ap₂, _∙_, subst, sym}
 use mathlib.Core.Bool.{not, _&&_}
-use mathlib.Core.Logic.{inl, inr}
-use native.Mathlib.Nat.{le-refl}
 use native.Mathlib.Omega.{arith}
 use lib.Dec.{T, T-not, not-T, eqb, eqb→eq, eqb-refl}
 use Rattle.arena.specs.Sets.{Set, compl, some, least}
 use Rattle.arena.specs.Arena.{Side, Arena, forced}
 use Rattle.arena.specs.Win.{Goal, toReach, toStay}
-use Rattle.arena.specs.Passes.{grow}
-use Rattle.arena.proofs.Tests.{decT, and-intro, and-l, and-r, or-cases}
+use Rattle.arena.proofs.Tests.{stable, and-intro, and-l, and-r}
 use Rattle.arena.proofs.Sets.{Sub, compl-compl, some-intro, some-elim, meets-out, least-some, least-le}
-use Rattle.arena.proofs.Passes.{grow-le}
+use Rattle.arena.proofs.Passes.{grow-least}
 use Rattle.blocks.specs.Blocks.{meets, isBlock}
 use Rattle.blocks.specs.Round.{meetsStep, openMeeting, undecided, intoKnown, border, borderBlock}
 use Rattle.blocks.specs.Hunt.{hunter, prey, lower, upper}
 use Rattle.blocks.proofs.Blocks.{Named, mates, Whole, inside-dual, meets-whole, compl-whole, both-whole}
 use Rattle.blocks.proofs.Hunt.{meetsStep-mono, lower-target, lower-closed, lower-whole, upper-whole, known-hunter, undecided-hunter}
+use Rattle.blocks.proofs.Refine.{meets-upper}
 
 -- ## The border in the hunter's view
 
@@ -27,7 +25,7 @@ module _ (g : Arena) (block : ℕ → ℕ) (i : Side) (A : Set) where
   edge = openMeeting g block (λ s. upper g block i A s && not (lower g block i A s)) (forced g i (lower g block i A))
 
   -- a block on the edge has members inside the forced step and outside it
-  pub edge-splits : (s : ℕ) → s < g .size → T (edge s)
+  edge-splits : (s : ℕ) → s < g .size → T (edge s)
       → ((t : ℕ) × (t < g .size) × T (mates block s t) × T (forced g i (lower g block i A) t))
       × ((t : ℕ) × (t < g .size) × T (mates block s t) × T (not (forced g i (lower g block i A) t)))
   unfolding meets
@@ -38,39 +36,26 @@ module _ (g : Arena) (block : ℕ → ℕ) (i : Side) (A : Set) where
       let m : T (meets n block C s) = search (and-l, and-r) in
       let q : T (not (L s)) = search (and-l, and-r) in (
         meets-out n (mates block s) C m,
-        elim (decT (meets n block (compl C) s)) [
-          | inl y ↦ meets-out n (mates block s) (compl C) y
-          | inr o ↦ absurd (T-not (L s) q (lower-closed g block i A s l
-              (rw (compl-compl C) at (rw (← (inside-dual n block (compl C) s)) at (not-T (meets n block (compl C) s) o)))))
-        ],
+        meets-out n (mates block s) (compl C) (stable (meets n block (compl C) s) (λ o. T-not (L s) q (lower-closed g block i A s l
+            (rw (compl-compl C) at (rw (← (inside-dual n block (compl C) s)) at (not-T (meets n block (compl C) s) o)))))),
       )
 
-  -- where no block is on the edge, every pass adds only what is surely brought in
-  no-edge : (T (some (g .size) edge) → ⊥) → (k : ℕ) → k ≤ g .size → Sub (g .size) (grow (meetsStep g block i) A k) (lower g block i A)
-  unfolding grow upper
-  no-edge none zero b s l x = lower-target g block i A s x
-  no-edge none (suc k) b s l x =
-      let P = grow (meetsStep g block i) A k in
+  -- where no block is on the edge, only what is surely brought in may be
+  no-edge : (T (some (g .size) edge) → ⊥) → Sub (g .size) (upper g block i A) (lower g block i A)
+  unfolding upper
+  no-edge none =
       let L = lower g block i A in
-      elim (or-cases (P s) (meetsStep g block i P s) x) [
-        | inl y ↦ no-edge none k (omega arith) s l y
-        | inr y ↦ elim (decT (L s)) [
-          | inl z ↦ z
-          | inr o ↦ absurd (none (some-intro (g .size) edge s l
-              (and-intro (upper g block i A s && not (L s)) (meets (g .size) block (forced g i L) s)
-              (and-intro (upper g block i A s) (not (L s)) (grow-le (meetsStep g block i) A (suc k) (g .size) s b x) (not-T (L s) o))
-              (meetsStep-mono g block i P L (no-edge none k (omega arith)) s l y))))
-        ]
-      ]
+      grow-least (g .size) (meetsStep g block i) (meetsStep-mono g block i) A L (λ s l. lower-target g block i A s) (λ s l y.
+      stable (L s) (λ o. none (some-intro (g .size) edge s l
+      (and-intro (upper g block i A s && not (L s)) (meets (g .size) block (forced g i L) s)
+      (and-intro (upper g block i A s) (not (L s)) (meets-upper g block i A s l y) (not-T (L s) o)) y)))) (g .size)
 
   -- where the hunter may bring in a state, and not surely, some state is on the edge
-  pub open-edge : (s : ℕ) → s < g .size → T (upper g block i A s && not (lower g block i A s)) → T (some (g .size) edge)
-  unfolding upper
-  open-edge s l h = elim (decT (some (g .size) edge)) [
-    | inl y ↦ y
-    | inr none ↦ absurd (T-not (lower g block i A s) (and-r (upper g block i A s) (not (lower g block i A s)) h)
-        (no-edge none (g .size) (le-refl (g .size)) s l (and-l (upper g block i A s) (not (lower g block i A s)) h)))
-  ]
+  open-edge : (s : ℕ) → s < g .size → T (upper g block i A s && not (lower g block i A s)) → T (some (g .size) edge)
+  open-edge s l h =
+      stable (some (g .size) edge) (λ none.
+      T-not (lower g block i A s) (and-r (upper g block i A s) (not (lower g block i A s)) h)
+      (no-edge none s l (and-l (upper g block i A s) (not (lower g block i A s)) h)))
 
 -- ## The border of 01
 
@@ -81,14 +66,19 @@ pub record LowestBorder (g : Arena) (block : ℕ → ℕ) (o : Goal) (A : Set) (
   pub on-border : T (border g block o A b)
   pub lowest : (s : ℕ) → s < g .size → T (border g block o A s) → b ≤ block s
 
+-- the prey is a union of whole blocks where the target is
+prey-whole : (n : ℕ) (block : ℕ → ℕ) (o : Goal) (A : Set) → Whole n block A → Whole n block (prey o A)
+prey-whole n block toReach A a = a
+prey-whole n block toStay A a = compl-whole n block A a
+
 module _ (g : Arena) (block : ℕ → ℕ) (o : Goal) (A : Set) where
   -- the border is the edge of the side that hunts
-  pub border-edge : (s : ℕ) → border g block o A s ≡ edge g block (hunter o) (prey o A) s
+  border-edge : (s : ℕ) → border g block o A s ≡ edge g block (hunter o) (prey o A) s
   unfolding border
   border-edge s = ap₂ _&&_ (undecided-hunter g block A o s) (ap (λ X. meets (g .size) block X s) (known-hunter g block A o))
 
   -- where some state is open there is a border state
-  pub open-border : (s : ℕ) → s < g .size → T (undecided g block o A s) → T (some (g .size) (border g block o A))
+  open-border : (s : ℕ) → s < g .size → T (undecided g block o A s) → T (some (g .size) (border g block o A))
   open-border s l h =
       let w = some-elim (g .size) (edge g block (hunter o) (prey o A))
       (open-edge g block (hunter o) (prey o A) s l (rw (undecided-hunter g block A o s) at h)) in
@@ -100,26 +90,19 @@ module _ (g : Arena) (block : ℕ → ℕ) (o : Goal) (A : Set) where
       × ((t : ℕ) × (t < g .size) × T (mates block s t) × T (not (intoKnown g block o A t)))
   border-splits s l h = rw (known-hunter g block A o) (edge-splits g block (hunter o) (prey o A) s l (rw (border-edge s) at h))
 
-  -- the prey is a union of whole blocks where the target is
-  pub prey-whole : Whole (g .size) block A → Whole (g .size) block (prey o A)
-  prey-whole a = go o
-    where
-      go : (o : Goal) → Whole (g .size) block (prey o A)
-      go toReach = a
-      go toStay = compl-whole (g .size) block A a
-
   -- the open states are whole blocks where the target is
-  pub undecided-whole : Whole (g .size) block A → Whole (g .size) block (undecided g block o A)
+  undecided-whole : Whole (g .size) block A → Whole (g .size) block (undecided g block o A)
   undecided-whole a s t ls lt e =
       let i = hunter o in
       let P = prey o A in
+      let p = prey-whole (g .size) block o A a in
       undecided-hunter g block A o s
-      ∙ both-whole (g .size) block (upper g block i P) (compl (lower g block i P)) (upper-whole g block i P (prey-whole a))
-      (compl-whole (g .size) block (lower g block i P) (lower-whole g block i P (prey-whole a))) s t ls lt e
+      ∙ both-whole (g .size) block (upper g block i P) (compl (lower g block i P)) (upper-whole g block i P p)
+      (compl-whole (g .size) block (lower g block i P) (lower-whole g block i P p)) s t ls lt e
       ∙ sym (undecided-hunter g block A o t)
 
   -- the border is a union of whole blocks where the target is
-  pub border-whole : Whole (g .size) block A → Whole (g .size) block (border g block o A)
+  border-whole : Whole (g .size) block A → Whole (g .size) block (border g block o A)
   unfolding border
   border-whole a =
       both-whole (g .size) block (undecided g block o A) (meets (g .size) block (intoKnown g block o A)) (undecided-whole a)
@@ -131,7 +114,8 @@ module _ (g : Arena) (block : ℕ → ℕ) (o : Goal) (A : Set) where
   unfolding borderBlock
   border-block ok a s l h =
       let w = some-elim (g .size) (border g block o A) (open-border s l h) in
-      let f = least-some (g .size) names (named (w .0) (w .1) (w .2)) in
+      let low : block (w .0) < g .size = omega (arith, ok .down (w .0) (w .1)) in
+      let f = least-some (g .size) names (some-intro (g .size) names (block (w .0)) low (name-in (w .0) (w .1) (w .2))) in
       let b = least (g .size) names in
       record {
         state = f .0;
@@ -147,6 +131,3 @@ module _ (g : Arena) (block : ℕ → ℕ) (o : Goal) (A : Set) where
       name-in t k x =
           and-intro (eqb (block (block t)) (block t)) (border g block o A (block t)) (rw (ok .own t k) (eqb-refl (block t)))
           (subst T (border-whole a t (block t) k (omega (arith, ok .down t k)) (sym (ok .own t k))) x)
-
-      named : (t : ℕ) → t < g .size → T (border g block o A t) → T (some (g .size) names)
-      named t k x = some-intro (g .size) names (block t) (omega (arith, ok .down t k)) (name-in t k x)

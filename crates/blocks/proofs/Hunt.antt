@@ -8,9 +8,9 @@ use Rattle.arena.specs.Sets.{Set, compl, least}
 use Rattle.arena.specs.Arena.{Side, one, two, other, Arena, forced}
 use Rattle.arena.specs.Win.{Goal, toReach, toStay}
 use Rattle.arena.specs.Passes.{grow, rank}
-use Rattle.arena.proofs.Tests.{or-r, contra, not-not}
+use Rattle.arena.proofs.Tests.{contra, not-not}
 use Rattle.arena.proofs.Sets.{Sub, compl-compl}
-use Rattle.arena.proofs.Passes.{Mono, grow-le, grow-sub, grow-stable, shrink-grow}
+use Rattle.arena.proofs.Passes.{Mono, grow-le, grow-sub, grow-closed, shrink-grow}
 use Rattle.arena.proofs.Forced.{forced-mono, forced-other, forced-dual}
 use Rattle.arena.proofs.Win.{reach}
 use Rattle.blocks.specs.Blocks.{inside, meets}
@@ -73,17 +73,13 @@ module _ (g : Arena) (block : ℕ → ℕ) (i : Side) (A : Set) where
 
   -- no further block lies inside the step to what is surely brought in
   pub lower-closed : Sub (g .size) (insideStep g block i (lower g block i A)) (lower g block i A)
-  unfolding lower grow
-  lower-closed s l x =
-      grow-stable (g .size) (insideStep g block i) (insideStep-mono g block i) A (g .size) (omega arith) s l
-      (or-r (lower g block i A s) (insideStep g block i (lower g block i A) s) x)
+  unfolding lower
+  lower-closed = grow-closed (g .size) (insideStep g block i) (insideStep-mono g block i) A (g .size) (omega arith)
 
   -- no further block meets the step to what may be brought in
   pub upper-closed : Sub (g .size) (meetsStep g block i (upper g block i A)) (upper g block i A)
-  unfolding upper grow
-  upper-closed s l x =
-      grow-stable (g .size) (meetsStep g block i) (meetsStep-mono g block i) A (g .size) (omega arith) s l
-      (or-r (upper g block i A s) (meetsStep g block i (upper g block i A) s) x)
+  unfolding upper
+  upper-closed = grow-closed (g .size) (meetsStep g block i) (meetsStep-mono g block i) A (g .size) (omega arith)
 
   -- from outside what side i may bring in, its opponent can force a step that stays outside
   pub never-closed : Sub (g .size) (compl (upper g block i A)) (forced g (other i) (compl (upper g block i A)))

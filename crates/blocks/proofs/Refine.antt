@@ -7,8 +7,8 @@ use lib.Dec.{T, eqb, eqb→eq}
 use borrow.Author.Tests.{eq-eqb}
 use Rattle.arena.specs.Sets.{Set, least}
 use Rattle.arena.specs.Arena.{Side, Arena, forced}
-use Rattle.arena.proofs.Tests.{holds, and-intro, and-l, cond-ind}
-use Rattle.arena.proofs.Sets.{Sub, meets-in, meets-out, within-in, within-out, least-hit}
+use Rattle.arena.proofs.Tests.{holds, and-intro, and-l, beq-refl, beq→eq, cond-ind}
+use Rattle.arena.proofs.Sets.{Sub, meets-sub, within-sub, least-hit}
 use Rattle.arena.proofs.Passes.{grow-sub}
 use Rattle.arena.proofs.Least.{least-unique, least-cong}
 use Rattle.blocks.specs.Blocks.{part, inside, meets, split}
@@ -32,14 +32,12 @@ module _ (n : ℕ) (block finer : ℕ → ℕ) (fine : Refines n finer block) wh
   -- what lies inside by its block does by its finer block
   pub inside-refine : (X : Set) → Sub n (inside n block X) (inside n finer X)
   unfolding inside
-  inside-refine X s l h = within-in n (mates finer s) X (λ t k m. within-out n (mates block s) X h t k (mates-refine s t l k m))
+  inside-refine X s l = within-sub n (mates block s) X (mates finer s) X (λ t. mates-refine s t l) (λ t k x. x)
 
   -- what meets by its finer block does by its block
   pub meets-refine : (X : Set) → Sub n (meets n finer X) (meets n block X)
   unfolding meets
-  meets-refine X s l h =
-      let w = meets-out n (mates finer s) X h in
-      meets-in n (mates block s) X (w .0) (w .1) (mates-refine s (w .0) l (w .1) (w .2)) (w .3)
+  meets-refine X s l = meets-sub n (mates finer s) X (mates block s) X (λ t. mates-refine s t l) (λ t k x. x)
 
 module _ (g : Arena) (block finer : ℕ → ℕ) (fine : Refines (g .size) finer block) (i : Side) (A : Set) where
   -- what is surely brought in by blocks is so by finer ones
@@ -64,13 +62,6 @@ meets-upper g block i A s l h =
 
 -- ## A split, and how it is undone
 
--- likeness goes both ways
-beq-comm : (a b : Bool) → Bool·beq a b ≡ Bool·beq b a
-beq-comm true true = refl
-beq-comm true false = refl
-beq-comm false true = refl
-beq-comm false false = refl
-
 -- of two unlike tests a third is like the one exactly where it is unlike the other
 beq-unlike : (a b : Bool) → Bool·beq a b ≡ false → (c : Bool) → Bool·beq c a ≡ not (Bool·beq c b)
 beq-unlike true true e c = absurd (true≢false e)
@@ -93,7 +84,7 @@ module _ (n : ℕ) (block : ℕ → ℕ) (ok : Named n block) (b : ℕ) (low : b
       go true p false q = least-cong n _ _ (λ t k. ap (λ x. eqb (block t) b && x) (beq-unlike (C s) (C b) q (C t))) ∙ sym new
       go true p true q =
           least-unique n (part block b C s) b low
-          (and-intro (eqb (block b) b) (Bool·beq (C b) (C s)) (rw (eq-eqb (block b) b name) tt) (rw (beq-comm (C b) (C s), q) tt))
+          (and-intro (eqb (block b) b) (Bool·beq (C b) (C s)) (rw (eq-eqb (block b) b name) tt) (rw (beq→eq (C s) (C b) (holds _ q)) (beq-refl (C b))))
           (λ t k h. omega (arith, ok .down t k, eqb→eq (block t) b (and-l (eqb (block t) b) (Bool·beq (C t) (C s)) h)))
           ∙ sym (eqb→eq (block s) b (rw p tt))
 

@@ -1,27 +1,17 @@
 -- Laws of the split: names stay the lowest members, new blocks lie in old ones, and there is one block more.
 use Prim.Native.Nat.{ℕ, zero, suc, _+_, _≤_, _<_}
-use mathlib.Core.Path.{_≡_, refl, sym, ap, ap₂, _∙_, subst}
-use mathlib.Core.Bool.{Bool, true, false, not, _&&_, Bool·beq}
+use mathlib.Core.Path.{_≡_, refl, sym, ap, ap₂, _∙_}
+use mathlib.Core.Bool.{not, _&&_, Bool·beq, Bool-discrete}
 use mathlib.Core.Logic.{_⊎_, inl, inr}
 use native.Mathlib.Nat.{le-antisymm, lt-suc-self, not-suc-le-zero}
 use native.Mathlib.Omega.{arith}
-use lib.Dec.{T, eqb, eqb→eq, eqb-refl}
+use lib.Dec.{T, T-not, eqb, eqb→eq, eqb-refl}
 use borrow.Author.Tests.{eq-eqb, ne-eqb}
 use Rattle.arena.specs.Sets.{Set, bit, count, least}
-use Rattle.arena.proofs.Tests.{decT, is-true, and-intro, and-l, and-r}
+use Rattle.arena.proofs.Tests.{decT, is-true, is-false, beq-refl, beq→eq, opposite, and-intro, and-l, and-r}
 use Rattle.arena.proofs.Sets.{lt-suc-cases, least-in, least-le, count-le}
 use Rattle.blocks.specs.Blocks.{part, isBlock, blockCount, split}
 use Rattle.blocks.proofs.Blocks.{Named}
-
--- a test is like itself
-beq-refl : (b : Bool) → T (Bool·beq b b)
-beq-refl true = tt
-beq-refl false = tt
-
--- tests that are alike are equal
-beq→eq : (a b : Bool) → T (Bool·beq a b) → a ≡ b
-beq→eq true true h = refl
-beq→eq false false h = refl
 
 -- ## Names and members of the new blocks
 
@@ -80,14 +70,6 @@ module _ (n : ℕ) (block : ℕ → ℕ) (b : ℕ) (C : Set) where
 
 -- ## One block more
 
--- a test that holds counts one
-bit-yes : (b : Bool) → T b → bit b ≡ 1
-bit-yes true h = refl
-
--- a test that fails counts nothing
-bit-no : (b : Bool) → T (not b) → bit b ≡ 0
-bit-no false h = refl
-
 -- sets that agree below n have as many members there
 pub count-cong : (n : ℕ) (X Y : Set) → ((s : ℕ) → s < n → X s ≡ Y s) → count n X ≡ count n Y
 unfolding count
@@ -101,36 +83,20 @@ unfolding count
 count-one-more zero X Y r l x y h = absurd (not-suc-le-zero l)
 count-one-more (suc n) X Y r l x y h = elim (lt-suc-cases r n l) [
   | inl e ↦ (let c = count-cong n X Y (λ s m. h s (omega arith) (λ q. omega arith)) in
-      let a = bit-yes (Y n) (rw e at y) in
-      let d = bit-no (X n) (rw e at x) in omega arith)
+      let a = ap bit (is-true (Y n) (rw e at y)) in
+      let d = ap bit (is-false (X n) (T-not (X n) (rw e at x))) in omega arith)
   | inr m ↦ (let c = count-one-more n X Y r m x y (λ s k. h s (omega arith)) in
       let a = ap bit (h n (lt-suc-self n) (λ q. omega arith)) in omega arith)
 ]
 
--- no test is its own negation
-no-fix : (c : Bool) → c ≡ not c → ⊥
-no-fix true e = subst T e tt
-no-fix false e = subst T (sym e) tt
-
--- tests that are not alike are opposite
-unlike : (a b : Bool) → (T (Bool·beq a b) → ⊥) → a ≡ not b
-unlike true true h = absurd (h tt)
-unlike true false h = refl
-unlike false true h = refl
-unlike false false h = absurd (h tt)
-
--- a negation that holds makes its test false
-not-true : (b : Bool) → T (not b) → b ≡ false
-not-true false h = refl
-
 module _ (n : ℕ) (block : ℕ → ℕ) (ok : Named n block) (b : ℕ) (C : Set) where
   -- a member that lies in C unlike the lowest one brings one block more
-  parted : (t : ℕ) → t < n → block t ≡ b → C t ≡ not (C b) → blockCount n (split n block b C) ≡ suc (blockCount n block)
+  parted : (t : ℕ) → t < n → block t ≡ b → (C t ≡ C b → ⊥) → blockCount n (split n block b C) ≡ suc (blockCount n block)
   unfolding blockCount
   parted t l e d =
       count-one-more n (isBlock block) (isBlock (split n block b C)) r (omega (arith, h))
       (rw (ne-eqb (block r) r (λ q. r≢b (sym q ∙ h .1))) tt)
-      (rw (split-r) (eqb-refl r))
+      (rw (split-in n block b C r (h .1), same-part r (h .2)) (eqb-refl r))
       others
     where
       r : ℕ
@@ -143,13 +109,10 @@ module _ (n : ℕ) (block : ℕ → ℕ) (ok : Named n block) (b : ℕ) (C : Set
       b-own = rw e at (ok .own t l)
 
       r≢b : r ≡ b → ⊥
-      r≢b q = no-fix (C b) (ap C (sym q) ∙ h .2 ∙ d)
+      r≢b q = d (sym (h .2) ∙ ap C q)
 
       same-part : (s : ℕ) → C s ≡ C t → least n (part block b C s) ≡ r
       same-part s q = ap (λ c. least n (λ u. eqb (block u) b && Bool·beq (C u) c)) q
-
-      split-r : split n block b C r ≡ r
-      split-r = split-in n block b C r (h .1) ∙ same-part r (h .2)
 
       to-b : (s : ℕ) → s < n → block s ≡ b → C s ≡ C b → least n (part block b C s) ≡ b
       to-b s k es c =
@@ -162,23 +125,20 @@ module _ (n : ℕ) (block : ℕ → ℕ) (ok : Named n block) (b : ℕ) (C : Set
       others : (s : ℕ) → s < n → (s ≡ r → ⊥) → isBlock block s ≡ isBlock (split n block b C) s
       others s k o = elim (in-or-out n block b C s) [
         | inr out ↦ rw (split-out n block b C s out)
-        | inl es ↦ elim (decT (Bool·beq (C s) (C b))) [
-          | inl like ↦ rw (split-in n block b C s es, to-b s k es (beq→eq (C s) (C b) like), es)
-          | inr un ↦
-              (let c = unlike (C s) (C b) un in
-              rw (split-in n block b C s es, same-part s (c ∙ sym d), es)
-              (ne-eqb b s (λ q. no-fix (C b) (ap C q ∙ c)) ∙ sym (ne-eqb r s (λ q. o (sym q)))))
+        | inl es ↦ elim (Bool-discrete (C s) (C b)) [
+          | yes like ↦ rw (split-in n block b C s es, to-b s k es like, es)
+          | no un ↦ rw (split-in n block b C s es, same-part s (opposite (C s) (C b) un ∙ sym (opposite (C t) (C b) d)), es)
+              (ne-eqb b s (λ q. un (ap C (sym q))) ∙ sym (ne-eqb r s (λ q. o (sym q))))
         ]
       ]
 
   -- where block b has members in C and outside it, the split makes one block more
   pub split-count : (s t : ℕ) → s < n → t < n → block s ≡ b → block t ≡ b → T (C s) → T (not (C t))
       → blockCount n (split n block b C) ≡ suc (blockCount n block)
-  split-count s t ls lt es et cs ct = go (C b) refl
-    where
-      go : (c : Bool) → C b ≡ c → blockCount n (split n block b C) ≡ suc (blockCount n block)
-      go true e = parted t lt et (rw e (not-true (C t) ct))
-      go false e = parted s ls es (rw e (is-true (C s) cs))
+  split-count s t ls lt es et cs ct = elim (decT (C b)) [
+    | inl y ↦ parted t lt et (λ q. T-not (C t) ct (rw q y))
+    | inr o ↦ parted s ls es (λ q. o (rw q at cs))
+  ]
 
 -- there are no more blocks than states
 pub blockCount-le : (n : ℕ) (block : ℕ → ℕ) → blockCount n block ≤ n

@@ -1,13 +1,14 @@
 -- The game of an accepted file is an accepted game: all that callers may count on, proved once.
 use mathlib.Core.Path.{_≡_, refl, sym, ap, _∙_}
-use mathlib.Core.Bool.{Bool, true, false, _&&_, _||_, true≢false}
+use mathlib.Core.Bool.{true, false, _&&_}
 use mathlib.Core.Logic.{_⊎_, inl, inr, ⊎-elim}
 use mathlib.Core.List.{List}
 use Prim.Native.Nat.{ℕ, suc, _<_}
 use native.Mathlib.Omega.{arith}
-use lib.Dec.{T, eqb, ltb}
-use borrow.Author.Tests.{eq-eqb, eqb-true, ltb-true}
+use lib.Dec.{T, eqb, ltb, eqb→eq, ltb→lt}
+use borrow.Author.Tests.{eq-eqb}
 use Rattle.arena.specs.Sets.{Set}
+use Rattle.arena.proofs.Tests.{holds, and-l, and-r, or-elim}
 use Rattle.arena.proofs.Loops.{some-found, some-one, every-one}
 use Rattle.game.specs.Game.{fromAt, toAt, initials, targets, hasMove}
 use Rattle.game.specs.Accepted.{AcceptedGame, Precise, Ascending}
@@ -15,21 +16,18 @@ use Rattle.file.specs.Layout.{states, moves, block, from, to}
 use Rattle.file.specs.Refusals.{pairBelow, ascends, initial, target, moved, mixed, refusal}
 use Rattle.file.specs.Sound.{Sound}
 use Rattle.file.proofs.Laws.{given-cases}
-use Rattle.file.proofs.Sound.{and-first, and-second, accepted-sound, Whole, accepted-whole}
+use Rattle.file.proofs.Sound.{accepted-sound, Whole, accepted-whole}
 use Rattle.file.proofs.Mixed.{uniform}
-use Rattle.decoding.specs.declared.Answer.the-variants.{Accepted as Taken, Refused}
+use Rattle.decoding.specs.declared.Answer.the-variants.{Accepted as Taken}
 use Rattle.decoding.specs.declared.Decoded.{Decoded}
 use Rattle.decoding.specs.Decode.{gameOf, refusedGame, decoded}
 use Rattle.decoding.proofs.GameRows.{turn-is, marks-is, block-is, from-is, to-is, initial-is, target-is}
 
 below-cases : (a b c d : ℕ) → pairBelow a b c d ≡ true → (a < c) ⊎ ((a ≡ c) × (b < d))
 unfolding pairBelow
-below-cases a b c d e = go (ltb a c) refl (eqb a c && ltb b d) refl e
-  where
-    go : (x : Bool) → ltb a c ≡ x → (y : Bool) → (eqb a c && ltb b d) ≡ y → (x || y) ≡ true → (a < c) ⊎ ((a ≡ c) × (b < d))
-    go true p y q h = inl (ltb-true a c p)
-    go false p true q h = inr (eqb-true a c (and-first (eqb a c) (ltb b d) q), ltb-true b d (and-second (eqb a c) (ltb b d) q))
-    go false p false q h = absurd (true≢false (sym h))
+below-cases a b c d e =
+    or-elim (ltb a c) (eqb a c && ltb b d) (λ h. inl (ltb→lt a c h))
+    (λ h. inr (eqb→eq a c (and-l (eqb a c) (ltb b d) h), ltb→lt b d (and-r (eqb a c) (ltb b d) h))) (holds _ e)
 
 module _ (f : List ℕ) (ok : Sound f) (whole : Whole f) where
   -- the pairs ascend
@@ -57,7 +55,7 @@ module _ (f : List ℕ) (ok : Sound f) (whole : Whole f) where
       let blocks : block f s ≡ block f t = sym (block-is f s ls) ∙ e ∙ block-is f t lt in
       same s ls ∙ uniform f X ok apart s ls ∙ ap X blocks ∙ sym (uniform f X ok apart t lt) ∙ sym (same t lt)
 
-  pub game-accepted : AcceptedGame (gameOf f)
+  game-accepted : AcceptedGame (gameOf f)
   unfolding gameOf
   game-accepted =
       record {
@@ -91,14 +89,4 @@ decoded-accepted f d p q =
     (λ (w : (refusal f ≡ 0) × (d ≡ record { answer = Taken; game = gameOf f })).
     let g : d .game ≡ gameOf f = ap (λ (x : Decoded). x .game) (w .1) in (w .0, g, rw g (accepted-game f (w .0))))
     (λ (w : (refusal f ≡ 0 → ⊥) × (d ≡ refusedGame (refusal f))). let z : _≡_ {A = ℕ} 0 1 = cc (ap (λ (x : Decoded). x .answer) (w .1)) in absurd (omega arith))
-    (given-cases refusedGame _ (refusal f) d p)
-
--- demand 1: what a caller of `decode` learns of a refused file
-pub decoded-refused : (f : List ℕ) (d : Decoded) (e : ℕ) → d ≡ decoded f → d .answer ≡ Refused e → (e ≡ refusal f) × (e ≡ 0 → ⊥)
-unfolding decoded
-decoded-refused f d e p q =
-    ⊎-elim
-    (λ (w : (refusal f ≡ 0) × (d ≡ record { answer = Taken; game = gameOf f })). let z : _≡_ {A = ℕ} 0 1 = cc (ap (λ (x : Decoded). x .answer) (w .1)) in absurd (omega arith))
-    (λ (w : (refusal f ≡ 0 → ⊥) × (d ≡ refusedGame (refusal f))).
-    let same : e ≡ refusal f = cc (ap (λ (x : Decoded). x .answer) (w .1)) in (same, λ z. w .0 (sym same ∙ z)))
     (given-cases refusedGame _ (refusal f) d p)

@@ -1,13 +1,12 @@
 -- What is handed back for an accepted file means what it is to mean.
-use Prim.Native.Nat.{ℕ, zero, suc, _+_, _≤_, _<_}
+use Prim.Native.Nat.{ℕ, _+_, _<_}
 use mathlib.Core.Path.{_≡_, refl, sym, ap, ap₂, _∙_, subst}
-use mathlib.Core.Bool.{not, _&&_}
+use mathlib.Core.Bool.{_&&_}
 use mathlib.Core.Logic.{inl, inr}
 use mathlib.Core.List.{List}
-use native.Mathlib.Omega.{arith}
-use lib.ListN.{getD, drop}
-use lib.Dec.{T, T-not, not-T, eqb, eqb→eq}
-use Rattle.arena.specs.Sets.{Set, compl, least}
+use lib.ListN.{drop}
+use lib.Dec.{T, not-T, eqb, eqb→eq}
+use Rattle.arena.specs.Sets.{Set, least}
 use Rattle.arena.specs.Arena.{Side, one, two}
 use Rattle.arena.specs.Win.{Goal}
 use Rattle.arena.specs.Plan.{noMove, WinningPlan}
@@ -20,7 +19,7 @@ use Rattle.game.specs.Published.{goalOf, arenaOf}
 use Rattle.game.specs.Accepted.{AcceptedGame}
 use Rattle.game.specs.declared.Game.{Game}
 use Rattle.game.proofs.Rows.{fill-at, fill-drop}
-use Rattle.blocks.specs.Blocks.{isBlock, blockCount}
+use Rattle.blocks.specs.Blocks.{blockCount}
 use Rattle.blocks.proofs.Split.{count-cong}
 use Rattle.runs.specs.Run.{lowestFirst, sureStates, possibleStates, Word, YES, NO, OPEN, word, namedStart, Run, run, round}
 use Rattle.runs.proofs.Rounds.{says, accepted-live, lowest-borders}
@@ -29,7 +28,7 @@ use Rattle.solver.specs.Rules.{mark, rule, planned}
 use Rattle.solver.specs.Solve.{decisionOf, said, verdictOf, Rows, writtenRows}
 use Rattle.solver.proofs.Rules.{wonBy}
 use Rattle.demands.specs.Winners.{Wins, Loses, SomeStartWins, PlanWins}
-use Rattle.demands.specs.Meaning.{place, blocksOf, splitsOf, SaysYes, SaysNo, SaysOpen, Says, Marked, Answered}
+use Rattle.demands.specs.Meaning.{place, blocksOf, splitsOf, Says, Marked, Answered}
 use Rattle.demands.proofs.Verdicts.{sure-marked, mark-means, yes-means, no-means}
 use Rattle.demands.proofs.PlanRows.{aim, ground, wonStates, plan-wins}
 

@@ -4,7 +4,7 @@ use mathlib.Core.Path.{_≡_, refl, sym, ap, _∙_, subst}
 use mathlib.Core.List.{List}
 use native.Mathlib.Omega.{arith}
 use borrow.Author.Tests.{leb-true}
-use lib.ListN.{length, take, drop}
+use lib.ListN.{length, take}
 use Rattle.file.specs.Fault.{refusedOr}
 use Rattle.file.specs.Layout.{Bytes}
 use Rattle.file.specs.Refusals.{refusal}
@@ -15,8 +15,7 @@ use Rattle.decoding.proofs.Accepted.{decoded-accepted}
 use Rattle.exchange.specs.Exchange.{Outcome as Exchange, exchangeFault, exchanged, exchangedFile}
 use Rattle.exchange.specs.declared.Exchanged.the-variants.{Written, Refused}
 use Rattle.exchange.proofs.Ends.{written}
-use Rattle.solver.specs.Solve.{Rows, shortRow, Outcome, solved}
-use Rattle.demands.specs.Demand3.{Demand3}
+use Rattle.solver.specs.Solve.{Rows, Outcome, solved}
 use Rattle.demands.specs.Files.{FileOfGame}
 use Rattle.demands.specs.Calls.{SolvePromise, DecodePromise, ExchangePromise, ExchangedSolvePromise}
 use Rattle.demands.proofs.Demand1.{demand1, demand1-of-decoding, demand1-of-exchange}

@@ -1,23 +1,19 @@
 -- Demand 1 holds of every byte string, allowance and lent memory.
 use Prim.Native.Nat.{ℕ, zero, suc, _≤_}
-use mathlib.Core.Path.{_≡_, refl, sym, ap, _∙_, subst}
+use mathlib.Core.Path.{_≡_, refl, ap}
 use mathlib.Core.Bool.{Bool, true, false}
 use mathlib.Core.List.{List}
 use native.Mathlib.Omega.{arith}
 use lib.ListN.{length}
 use lib.Dec.{lit≤}
 use Rattle.file.specs.Fault.{unless, _then_, lowest, refusedOr, keptOr}
-use Rattle.file.specs.Layout.{states, moves}
 use Rattle.file.specs.Refusals.{frame, headFields, headFault, stateFields, stateFault, moveFields, moveFault, blockFault, wholeFault, refusal}
 use Rattle.decoding.specs.Decode.{gameOf, refusedGame, decoded}
-use Rattle.decoding.specs.declared.Answer.{Answer}
 use Rattle.decoding.specs.declared.Answer.the-variants as decode
 use Rattle.exchange.specs.Exchange.{exchangedFile, exchangeFault, writtenOver, exchanged}
-use Rattle.exchange.specs.declared.Exchanged.{Exchanged}
 use Rattle.exchange.specs.declared.Exchanged.the-variants as exchange
 use Rattle.runs.specs.Run.{Word, YES, NO, OPEN, word}
-use Rattle.solver.specs.Solve.{decisionOf, said, runOf, verdictOf, Rows, shortRow, solveFault, Outcome, solved}
-use Rattle.solver.specs.declared.Verdict.{Verdict}
+use Rattle.solver.specs.Solve.{decisionOf, said, runOf, Rows, shortRow, solveFault, Outcome, solved}
 use Rattle.solver.specs.declared.Verdict.the-variants.{Refused}
 use Rattle.solver.proofs.HandingBack.{solved-is}
 use Rattle.demands.specs.Demand1.{GivenExactly, Demand1, Demand1OfDecoding, Demand1OfExchange}

@@ -1,6 +1,6 @@
 -- Demand 3 holds of every accepted file and the file of the exchanged game.
 use Prim.Native.Nat.{ℕ, _<_}
-use mathlib.Core.Path.{_≡_, refl, sym, ap, ap₂, _∙_, subst}
+use mathlib.Core.Path.{_≡_, refl, sym, ap, _∙_, subst}
 use mathlib.Core.List.{List}
 use lib.Dec.{T}
 use Rattle.arena.specs.Sets.{Set}
@@ -24,10 +24,10 @@ use Rattle.solver.specs.Solve.{decisionOf, said, runOf, verdictOf, Rows, writte
 use Rattle.solver.specs.declared.Verdict.{Verdict}
 use Rattle.solver.specs.declared.Verdict.the-variants.{Yes, No, Open, Refused}
 use Rattle.demands.specs.Meaning.{place, splitsOf}
-use Rattle.demands.specs.Trades.{SingleStart, tradeWord, tradeMark, tradeRun, tradeVerdict, SameRound}
+use Rattle.demands.specs.Trades.{SingleStart, tradeMark, tradeRun, tradeVerdict, SameRound}
 use Rattle.demands.specs.Demand3.{SidesExchanged, Demand3}
 use Rattle.demands.proofs.Demand2.{outcome-is}
-use Rattle.demands.proofs.Exchanged.{turns-flipped, goal-opposite, known-exchanged, border-exchanged, mark-exchanged, plan-exchanged}
+use Rattle.demands.proofs.Exchanged.{tradeWord, turns-flipped, goal-opposite, known-exchanged, border-exchanged, mark-exchanged, plan-exchanged}
 use Rattle.demands.proofs.ExchangedRun.{wins-exchanged, round-exchanged, exchanged-single, word-exchanged, run-exchanged}
 
 -- ## One game and its exchange

@@ -26,10 +26,16 @@ use Rattle.runs.specs.Run.{Choice, lowestFirst, sureStates, possibleStates, int
 use Rattle.solver.specs.Rules.{mark, successors, advice, rule, planned}
 use Rattle.solver.specs.Work.{chaseRule, fleeRule, winnerRule}
 use Rattle.solver.proofs.Rules.{winner-rule}
-use Rattle.demands.specs.Trades.{tradeWord, tradeMark}
+use Rattle.demands.specs.Trades.{tradeMark}
 use Rattle.demands.proofs.Following.{onTheWay, safe}
 use Rattle.demands.proofs.Traded.{Agree, mine-traded, lower-traded, upper-traded, rank-traded}
 use Rattle.demands.proofs.TradedRound.{sure-traded, possible-traded, known-traded, border-block-traded}
+
+-- YES and NO trade places, and OPEN stays
+abbrev pub tradeWord : Word → Word
+tradeWord YES = NO
+tradeWord NO = YES
+tradeWord OPEN = OPEN
 
 -- ## The rows
 

@@ -19,10 +19,10 @@ use Rattle.exchange.proofs.Games.{exchanged-initials, exchanged-targets}
 use Rattle.blocks.proofs.Sound.{sure-possible}
 use Rattle.runs.specs.Run.{Choice, round, sureStates, possibleStates, Word, YES, NO, OPEN, word, splitGame, Run, oneMore, ended, ifOpen, run}
 use Rattle.demands.specs.Winners.{Wins}
-use Rattle.demands.specs.Trades.{SingleStart, tradeWord, tradeRun}
+use Rattle.demands.specs.Trades.{SingleStart, tradeRun}
 use Rattle.runs.proofs.Rounds.{accepted-live, split-accepted}
 use Rattle.demands.proofs.Traded.{region-traded}
-use Rattle.demands.proofs.Exchanged.{turnsOf, turns-flipped, goal-opposite, sure-exchanged, possible-exchanged, split-exchanged}
+use Rattle.demands.proofs.Exchanged.{tradeWord, turnsOf, turns-flipped, goal-opposite, sure-exchanged, possible-exchanged, split-exchanged}
 
 -- ## Who wins
 

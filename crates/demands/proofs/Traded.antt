@@ -1,5 +1,5 @@
 -- Two arenas with the turns traded: what a side forces in the one, its opponent forces in the other, with the same blocks.
-use Prim.Native.Nat.{ℕ, zero, suc, _<_, zero-le, suc-le-suc}
+use Prim.Native.Nat.{ℕ, zero, suc, _<_}
 use mathlib.Core.Path.{_≡_, refl, sym, ap, ap₂, _∙_, fun-ext}
 use mathlib.Core.Bool.{not, _&&_, _||_, cond}
 use lib.Dec.{eqb}

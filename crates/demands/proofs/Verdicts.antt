@@ -12,7 +12,7 @@ use Rattle.blocks.proofs.Sound.{sure-wins, wins-possible, never-spoils}
 use Rattle.runs.specs.Run.{sureStates, possibleStates, YES, NO, namedStart}
 use Rattle.runs.proofs.Rounds.{Says, accepted-live}
 use Rattle.solver.specs.Rules.{mark}
-use Rattle.demands.specs.Winners.{Wins, Loses, SomeStartWins}
+use Rattle.demands.specs.Winners.{Wins, SomeStartWins}
 use Rattle.demands.specs.Meaning.{Marked}
 
 -- the mark of a state that is sure or not, and possible or not

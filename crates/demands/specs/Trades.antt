@@ -5,7 +5,7 @@ use lib.Dec.{T}
 use Rattle.game.specs.Game.{stateNo, initials}
 use Rattle.game.specs.declared.Game.{Game}
 use Rattle.exchange.specs.Exchange.{exchangedGame}
-use Rattle.runs.specs.Run.{intoKnownStates, lowestFirst, Word, YES, NO, OPEN, Run}
+use Rattle.runs.specs.Run.{intoKnownStates, lowestFirst, Run}
 use Rattle.solver.specs.Rules.{mark}
 use Rattle.solver.specs.declared.Verdict.{Verdict}
 use Rattle.solver.specs.declared.Verdict.the-variants.{Yes, No, Open, Refused}
@@ -16,12 +16,6 @@ pub record SingleStart (g : Game) (start : ℕ) : Type 0 where
   pub chosen : T (initials g start)
   pub only : (s : ℕ) → s < g .states → T (initials g s) → s ≡ start
 
--- demand 3, 'YES and NO .. trade places; open stays open'
-abbrev pub tradeWord : Word → Word
-tradeWord YES = NO
-tradeWord NO = YES
-tradeWord OPEN = OPEN
-
 -- demand 3, 'sure and never trade places; open stays open': marks are 0 never, 1 open, 2 sure
 abbrev pub tradeMark : ℕ → ℕ
 tradeMark m = 2 - m
@@ -30,7 +24,7 @@ tradeMark m = 2 - m
 abbrev pub tradeRun : Run → Run
 tradeRun r = record { splits = r .splits; last = exchangedGame (r .last) }
 
--- the answer for the exchanged file of a game with a single start
+-- demand 3, 'YES and NO .. trade places; open stays open': the answer for the exchanged file of a game with a single start
 abbrev pub tradeVerdict : ℕ → Verdict → Verdict
 tradeVerdict start (Yes s n) = No n
 tradeVerdict start (No n) = Yes (stateNo start) n

@@ -86,17 +86,13 @@ module _ (g : Game) (ok : AcceptedGame g) where
       let w = ok .start in
       rw (states-read g) (some-found (g .states) (initial (fileOf g)) (w .0) (w .1) (ap (marked 1) (marks-read g (w .0) (w .1)) ∙ is-true _ (w .2)))
 
-  goes-on : (s : ℕ) → s < g .states → moved (fileOf g) s ≡ true
+  all-go-on : every (states (fileOf g)) (moved (fileOf g)) ≡ true
   unfolding moved hasMove
-  goes-on s l =
+  all-go-on = rw (states-read g) (every-each (g .states) (moved (fileOf g)) (λ s l.
       let w = ok .moving s l in
       let m = some-one (g .moves) (λ k. eqb (fromAt g k) s && eqb (toAt g k) (w .0)) (is-true _ (w .2)) in
-      rw (moves-read g)
-      (some-found (g .moves) (λ k. eqb (from (fileOf g) k) s) (m .0) (m .1)
-      (rw (from-read g (m .0) (m .1)) (and-first (eqb (fromAt g (m .0)) s) (eqb (toAt g (m .0)) (w .0)) (m .2))))
-
-  all-go-on : every (states (fileOf g)) (moved (fileOf g)) ≡ true
-  all-go-on = rw (states-read g) (every-each (g .states) (moved (fileOf g)) goes-on)
+      rw (moves-read g) (some-found (g .moves) (λ k. eqb (from (fileOf g) k) s) (m .0) (m .1)
+      (rw (from-read g (m .0) (m .1)) (and-first (eqb (fromAt g (m .0)) s) (eqb (toAt g (m .0)) (w .0)) (m .2))))))
 
   -- a set of whole blocks; X is it as the file says it, Y as the game does
   apart : (X Y : Set) → ((s : ℕ) → s < g .states → X s ≡ Y s) → Precise g Y → not (mixed (fileOf g) X) ≡ true

@@ -1,7 +1,7 @@
 -- What a call of the exchange comes to.
 use mathlib.Core.Path.{_≡_, refl, sym, ap, ap₂, _∙_}
 use mathlib.Core.List.{List}
-use Prim.Native.Nat.{ℕ, suc, _≤_, _<_}
+use Prim.Native.Nat.{ℕ, _≤_, _<_}
 use native.Mathlib.Omega.{arith}
 use lib.ListN.{length, take, drop}
 use lib.Seq.{take-at, drop-at}
@@ -14,7 +14,7 @@ use Rattle.exchange.specs.declared.Exchanged.{Exchanged}
 use Rattle.exchange.specs.declared.Exchanged.the-variants.{Written, Refused}
 use Rattle.exchange.specs.Exchange.{exchangedFile, exchangeFault, Outcome, exchanged}
 use Rattle.exchange.specs.Bytes.{exchangedBytes}
-use Rattle.exchange.proofs.ExchangedFiles.{exchanged-accepted, same-length, exchanged-twice}
+use Rattle.exchange.proofs.ExchangedFiles.{same-length}
 use Rattle.exchange.proofs.Written.{bytes-written}
 
 -- ## The ends of the code; e is what `first_refusal` gave

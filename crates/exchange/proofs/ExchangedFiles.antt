@@ -14,7 +14,6 @@ use Rattle.encoding.proofs.Places.{file-length}
 use Rattle.encoding.proofs.FileOfGame.{file-of-game}
 use Rattle.encoding.proofs.GameOfFile.{game-tidy, game-of-file}
 use Rattle.encoding.proofs.FileAccepted.{file-accepted}
-use Rattle.encoding.proofs.FileBytes.{file-bytes}
 use Rattle.exchange.specs.Exchange.{exchangedGame, exchangedFile}
 use Rattle.exchange.proofs.Games.{exchanged-tidy, exchanged-game-accepted, exchanged-game-twice}
 

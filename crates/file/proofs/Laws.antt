@@ -1,11 +1,12 @@
 -- Laws of faults and tests, in the form that `search` can use: a tested value x may be what a call gave, x ≡ a.
 use mathlib.Core.Path.{_≡_, refl, sym, _∙_}
-use mathlib.Core.Bool.{Bool, true, false, not, true≢false}
+use mathlib.Core.Bool.{Bool, true, false, not}
 use mathlib.Core.List.{List}
-use Prim.Native.Nat.{ℕ, zero, suc, _+_, _-_, _*_, _≤_, _<_}
-use native.Mathlib.Nat.{zero-add, suc-add, not-suc-le-zero, eq-or-lt-of-le, le-of-suc-le-suc}
+use Prim.Native.Nat.{ℕ, zero, suc, _+_, _-_, _≤_, _<_}
+use native.Mathlib.Nat.{not-suc-le-zero, eq-or-lt-of-le, le-of-suc-le-suc}
 use mathlib.Core.Logic.{_⊎_, inl, inr, ⊎-elim}
 use native.Mathlib.Numerals.{add-one}
+use native.Mathlib.Decide.{le-ind}
 use native.Mathlib.Omega.{arith}
 use lib.ListN.{length}
 use lib.Dec.{T, eqb, leb, ltb}
@@ -13,7 +14,7 @@ use Rattle.arena.proofs.Choices.{both, first-not, second-not}
 use borrow.Author.Needs.{needs}
 use borrow.Author.Tests.{eq-eqb, ne-eqb, le-leb, lt-leb, lt-ltb, le-ltb, leb-true, not-true, not-false}
 use Rattle.file.specs.Fault.{unless, _then_, lowest, refusedOr}
-use Rattle.file.specs.Layout.{numberAt, moveAt, states, from, to}
+use Rattle.file.specs.Layout.{numberAt, moveAt, from, to}
 use Rattle.file.specs.Refusals.{frame, pairBelow, ascends}
 
 -- ## Chains of tests, for the code that walks along them
@@ -32,9 +33,8 @@ then-none a b e v p q r = let z : a ≡ 0 = sym p ∙ q in rw z r
 -- a test failed, or passed
 pub unless-stop : (t : Bool) (b v : ℕ) → T (ltb 0 v) → t ≡ false → v ≡ (unless t v then b)
 unfolding _then_ unless
-unless-stop true b v h e = absurd (true≢false e)
-unless-stop false b zero h e = absurd h
-unless-stop false b (suc v) h e = refl
+unless-stop t b zero h e = absurd h
+unless-stop t b (suc v) h e = rw e refl
 
 pub unless-pass : (t : Bool) (b v w : ℕ) → t ≡ true → w ≡ b → w ≡ (unless t v then b)
 unfolding _then_ unless
@@ -135,27 +135,18 @@ pub lowest-none : (p : ℕ → ℕ) → lowest 0 p ≡ 0
 unfolding lowest
 lowest-none p = refl
 
--- one record more
-pub lowest-more : (n : ℕ) (p : ℕ → ℕ) → lowest (n + 1) p ≡ (lowest n p then p n)
-unfolding lowest
-lowest-more n p = rw add-one
-
 pub lowest-still : (n : ℕ) (p : ℕ → ℕ) (e : ℕ) → lowest n p ≡ 0 → e ≡ p n → e ≡ 0 → lowest (n + 1) p ≡ 0
-lowest-still n p e a q z = lowest-more n p ∙ sym (then-none (lowest n p) (p n) (lowest n p) 0 refl a (sym z ∙ q))
+unfolding lowest
+lowest-still n p e a q z = rw add-one (zero-then (lowest n p) (p n) a (sym q ∙ z))
 
 pub lowest-done : (k n : ℕ) (p : ℕ → ℕ) → lowest k p ≡ 0 → k ≤ n → n ≤ k → 0 ≡ lowest n p
 lowest-done k n p e l h = let q : k ≡ n = omega arith in sym (rw q at e)
 
 -- the first fault decides, however many records follow
-lowest-kept : (d n : ℕ) (p : ℕ → ℕ) (e : ℕ) → (e ≡ 0 → ⊥) → e ≡ lowest n p → e ≡ lowest (d + n) p
-unfolding lowest
-lowest-kept zero n p e z q = rw zero-add q
-lowest-kept (suc d) n p e z q = rw suc-add (then-fault (lowest (d + n) p) (p (d + n)) e (lowest-kept d n p e z q) z)
-
 pub lowest-found : (n : ℕ) (p : ℕ → ℕ) (k e : ℕ) → k < n → lowest k p ≡ 0 → e ≡ p k → (e ≡ 0 → ⊥) → e ≡ lowest n p
+unfolding lowest
 lowest-found n p k e l a q z =
-    let s : (n - (k + 1)) + (k + 1) ≡ n = omega arith in
-    rw s at (lowest-kept (n - (k + 1)) (k + 1) p e z (rw lowest-more (then-none (lowest k p) (p k) (lowest k p) e refl a q)))
+    le-ind (λ m. e ≡ lowest m p) (then-none (lowest k p) (p k) (lowest k p) e refl a q) (λ m _ x. then-fault (lowest m p) (p m) e x z) n l
 
 pub ruleset records = (lowest-none, lowest-still, lowest-done, lowest-found, faults)
 
@@ -164,19 +155,6 @@ pub ruleset records = (lowest-none, lowest-still, lowest-done, lowest-found, fau
 pub ascends-first : (f : List ℕ) (k : ℕ) → k ≡ 0 → ascends f k ≡ true
 unfolding ascends
 ascends-first f k e = rw e refl
-
--- where move records stand
-pub move-next : (f : List ℕ) (k : ℕ) → moveAt f (k + 1) ≡ moveAt f k + 8
-unfolding moveAt
-move-next f k = omega arith
-
-pub move-mono : (f : List ℕ) (k m : ℕ) → k < m → moveAt f k + 8 ≤ moveAt f m
-unfolding moveAt
-move-mono f k m l = omega arith
-
-pub move-start : (f : List ℕ) (k : ℕ) → 10 + 8 * states f ≤ moveAt f k
-unfolding moveAt
-move-start f k = omega arith
 
 -- what the code reads of move k, at place i, and of the one before, at place j
 pub ascends-is : (f : List ℕ) (k i j : ℕ) → i ≡ moveAt f k → j ≡ moveAt f (k - 1) → (k ≡ 0 → ⊥) → (x s y t : ℕ) → x ≡ numberAt f (j + 4) → s ≡ numberAt f (j + 6) → y ≡ numberAt f (i + 4) → t ≡ numberAt f (i + 6) → pairBelow x s y t ≡ ascends f k

@@ -1,6 +1,6 @@
 -- A file whose records have no fault is sound, and what the code reads of a sound file.
 use mathlib.Core.Path.{_≡_, refl, sym, ap, _∙_}
-use mathlib.Core.Bool.{Bool, true, false, _&&_, true≢false}
+use mathlib.Core.Bool.{Bool, true, false, _&&_}
 use mathlib.Core.List.{List}
 use Prim.Native.Nat.{ℕ, _+_, _-_, _*_, _≤_, _<_}
 use native.Mathlib.Omega.{arith}
@@ -8,22 +8,21 @@ use lib.ListN.{length}
 use lib.Dec.{leb}
 use borrow.Author.Tests.{leb-true, eqb-true, ltb-true, not-true}
 use Rattle.arena.specs.Sets.{some, every}
+use Rattle.arena.proofs.Tests.{is-true, holds, and-l, and-r}
 use Rattle.game.specs.Limits.{maxStates, maxMoves}
 use Rattle.game.specs.Game.{within, knownObjective, knownTurn}
 use Rattle.file.specs.Fault.{lowest}
 use Rattle.file.specs.Layout.{numberAt, states, moves, objective, turn, marks, block, moveAt, from, to}
 use Rattle.file.specs.Refusals.{headFields, headFault, stateFields, stateFault, ascends, moveFields, moveFault, initial, target, moved, mixed, blockFault, wholeFault, refusal}
 use Rattle.file.specs.Sound.{Sound}
-use Rattle.file.proofs.Laws.{then-zero, unless-zero, frame-long, lowest-zero, move-next, move-mono, move-start}
+use Rattle.file.proofs.Laws.{then-zero, unless-zero, frame-long, lowest-zero}
 
 -- both parts of a passed test
 pub and-first : (a b : Bool) → (a && b) ≡ true → a ≡ true
-and-first true b e = refl
-and-first false b e = e
+and-first a b e = is-true a (and-l a b (holds _ e))
 
 pub and-second : (a b : Bool) → (a && b) ≡ true → b ≡ true
-and-second true b e = e
-and-second false b e = absurd (true≢false (sym e))
+and-second a b e = is-true b (and-r a b (holds _ e))
 
 pub within-low : (a b x : ℕ) → within a b x ≡ true → a ≤ x
 within-low a b x e = leb-true a x (and-first (leb a x) (leb x b) e)
@@ -31,85 +30,78 @@ within-low a b x e = leb-true a x (and-first (leb a x) (leb x b) e)
 pub within-high : (a b x : ℕ) → within a b x ≡ true → x ≤ b
 within-high a b x e = leb-true x b (and-second (leb a x) (leb x b) e)
 
--- ## What a head without a fault says; e is what a call gave
+-- ## What a head without a fault says
 
+-- the three links of a head's fields
+head-links : (f : List ℕ) → headFault f ≡ 0
+    → (within 1 maxStates (states f) ≡ true) × (within 1 maxMoves (moves f) ≡ true) × (knownObjective (objective f) ≡ true)
+unfolding headFault headFields
+head-links f e =
+    let a = then-zero _ _ (then-zero _ _ e .1) in
+    let b = then-zero _ _ (a .1) in
+    (unless-zero _ 4 tt (a .0), unless-zero _ 4 tt (b .0), unless-zero _ 4 tt (b .1))
+
+-- e is what a call gave
 module _ (f : List ℕ) (e : ℕ) (p : e ≡ headFault f) (q : e ≡ 0) where
-  head-states : within 1 maxStates (states f) ≡ true
-  unfolding headFault headFields
-  head-states = unless-zero _ 4 tt (then-zero _ _ (then-zero _ _ (sym p ∙ q) .1) .0)
-
-  head-moves : within 1 maxMoves (moves f) ≡ true
-  unfolding headFault headFields
-  head-moves = unless-zero _ 4 tt (then-zero _ _ (then-zero _ _ (then-zero _ _ (sym p ∙ q) .1) .1) .0)
-
-  head-objective : knownObjective (objective f) ≡ true
-  unfolding headFault headFields
-  head-objective = unless-zero _ 4 tt (then-zero _ _ (then-zero _ _ (then-zero _ _ (sym p ∙ q) .1) .1) .1)
-
   pub head-long : 10 ≤ length f
   unfolding headFault
   head-long = frame-long f 0 8 1 0 (sym (then-zero _ _ (sym p ∙ q) .0)) refl
 
   pub few-states : states f ≤ maxStates
-  few-states = within-high 1 maxStates _ head-states
+  few-states = within-high 1 maxStates _ (head-links f (sym p ∙ q) .0)
 
   pub few-moves : moves f ≤ maxMoves
-  few-moves = within-high 1 maxMoves _ head-moves
+  few-moves = within-high 1 maxMoves _ (head-links f (sym p ∙ q) .1)
 
 -- ## What records without a fault say
 
 -- the four links of a state's fields
-state-links : (f : List ℕ) (s : ℕ) → stateFault f s ≡ 0
+state-links : (f : List ℕ) → lowest (states f) (stateFault f) ≡ 0 → (s : ℕ) → s < states f
     → (knownTurn (turn f s) ≡ true) × (marks f s ≤ 3) × (block f s ≤ s) × (block f (block f s) ≡ block f s)
 unfolding stateFault stateFields
-state-links f s e =
-    let a = then-zero _ _ (then-zero _ _ e .1) in
+state-links f e s l =
+    let a = then-zero _ _ (then-zero _ _ (lowest-zero (states f) (stateFault f) e s l) .1) in
     let b = then-zero _ _ (a .1) in
     let c = then-zero _ _ (b .1) in
     (unless-zero _ 5 tt (a .0), leb-true _ _ (unless-zero _ 5 tt (b .0)), leb-true _ _ (unless-zero _ 5 tt (c .0)), eqb-true _ _ (unless-zero _ 5 tt (c .1)))
 
 -- the three links of a move's fields
-move-links : (f : List ℕ) (k : ℕ) → moveFault f k ≡ 0 → (from f k < states f) × (to f k < states f) × (ascends f k ≡ true)
+move-links : (f : List ℕ) → lowest (moves f) (moveFault f) ≡ 0 → (k : ℕ) → k < moves f
+    → (from f k < states f) × (to f k < states f) × (ascends f k ≡ true)
 unfolding moveFault moveFields
-move-links f k e =
-    let a = then-zero _ _ (then-zero _ _ e .1) in
+move-links f e k l =
+    let a = then-zero _ _ (then-zero _ _ (lowest-zero (moves f) (moveFault f) e k l) .1) in
     let b = then-zero _ _ (a .1) in
     (ltb-true _ _ (unless-zero _ 6 tt (a .0)), ltb-true _ _ (unless-zero _ 6 tt (b .0)), unless-zero _ 6 tt (b .1))
 
 module _ (f : List ℕ) (head : headFault f ≡ 0) (ss : lowest (states f) (stateFault f) ≡ 0) (ms : lowest (moves f) (moveFault f) ≡ 0) where
-  state-ok : (s : ℕ) → s < states f → stateFault f s ≡ 0
-  state-ok s l = lowest-zero (states f) (stateFault f) ss s l
-
-  move-ok : (k : ℕ) → k < moves f → moveFault f k ≡ 0
-  move-ok k l = lowest-zero (moves f) (moveFault f) ms k l
-
   -- the last move's record is whole, and it ends where the moves end
   all-long : moveAt f (moves f) ≤ length f
-  unfolding moveFault
+  unfolding moveFault moveAt
   all-long =
-      let some : 1 ≤ moves f = within-low 1 maxMoves _ (head-moves f 0 (sym head) refl) in
-      let last : moves f - 1 < moves f = omega arith in
-      let end : moves f - 1 + 1 ≡ moves f = omega arith in
-      omega (arith, frame-long f (moveAt f (moves f - 1)) 6 3 0 (sym (then-zero _ _ (move-ok (moves f - 1) last) .0)) refl, move-next f (moves f - 1), ap (moveAt f) end)
+      let some : 1 ≤ moves f = within-low 1 maxMoves _ (head-links f head .1) in
+      let last = lowest-zero (moves f) (moveFault f) ms (moves f - 1) (omega arith) in
+      omega (arith, frame-long f (moveAt f (moves f - 1)) 6 3 0 (sym (then-zero _ _ last .0)) refl)
 
   -- no refusal from 2 to 6: the records are sound
   pub sound : Sound f
+  unfolding moveAt
   sound =
       record {
-        some-states = within-low 1 maxStates _ (head-states f 0 (sym head) refl);
-        few-states = few-states f 0 (sym head) refl;
-        some-moves = within-low 1 maxMoves _ (head-moves f 0 (sym head) refl);
-        few-moves = few-moves f 0 (sym head) refl;
-        objective-known = head-objective f 0 (sym head) refl;
-        states-long = omega (arith, all-long, move-start f (moves f));
+        some-states = within-low 1 maxStates _ (head-links f head .0);
+        few-states = within-high 1 maxStates _ (head-links f head .0);
+        some-moves = within-low 1 maxMoves _ (head-links f head .1);
+        few-moves = within-high 1 maxMoves _ (head-links f head .1);
+        objective-known = head-links f head .2;
+        states-long = omega (arith, all-long);
         long = all-long;
-        turn-known = λ s l. state-links f s (state-ok s l) .0;
-        marks-high = λ s l. state-links f s (state-ok s l) .1;
-        below = λ s l. state-links f s (state-ok s l) .2;
-        own = λ s l. state-links f s (state-ok s l) .3;
-        froms = λ k l. move-links f k (move-ok k l) .0;
-        tos = λ k l. move-links f k (move-ok k l) .1;
-        ascending = λ k l. move-links f k (move-ok k l) .2;
+        turn-known = λ s l. state-links f ss s l .0;
+        marks-high = λ s l. state-links f ss s l .1;
+        below = λ s l. state-links f ss s l .2;
+        own = λ s l. state-links f ss s l .3;
+        froms = λ k l. move-links f ms k l .0;
+        tos = λ k l. move-links f ms k l .1;
+        ascending = λ k l. move-links f ms k l .2;
       }
 
 -- ## What an accepted file is like
@@ -168,7 +160,8 @@ module _ (f : List ℕ) (n : ℕ) (e : n ≡ states f) (g : Sound f) where
 
   module _ (m : ℕ) (q : m ≡ moves f) (k i : ℕ) (l : k < m) (p : i ≡ moveAt f k) where
     pub move-inside : i + 8 ≤ length f
-    move-inside = omega (arith, move-mono f k (moves f) (omega arith), g .long)
+    unfolding moveAt
+    move-inside = omega (arith, g .long)
 
     pub from-small : (x : ℕ) → x ≡ numberAt f (i + 4) → x < maxStates
     from-small x r = omega (arith, r, ap (λ (i : ℕ). numberAt f (i + 4)) p, g .froms k (omega arith), g .few-states)

@@ -2,15 +2,15 @@
 use mathlib.Core.Path.{_≡_, refl, sym, ap, ap₂, _∙_}
 use mathlib.Core.Bool.{Bool, true, false, or-true, or-false}
 use mathlib.Core.List.{List, [], _∷_, _++_}
-use Prim.Native.Nat.{ℕ, zero, suc, _+_, _≤_, _<_}
+use Prim.Native.Nat.{ℕ, zero, suc, _+_, _-_, _≤_, _<_}
 use native.Mathlib.Decide.{ℕ-discrete}
 use native.Mathlib.Nat.{le-of-suc-le-suc, not-suc-le-zero, add-zero, zero-add, suc-add, add-suc}
 use native.Mathlib.Numerals.{add-one}
 use native.Mathlib.Omega.{arith}
 use borrow.Author.Needs.{needs}
 use borrow.Author.Tests.{eq-eqb, ne-eqb}
-use lib.ListN.{length, getD, set, drop, length-set, length-replicate, getD-replicate}
-use lib.Seq.{drop-nil, getD-set-same, getD-set-other}
+use lib.ListN.{length, getD, set, drop, length-set, length-append, length-drop, length-replicate, getD-replicate, List·getD-append}
+use lib.Seq.{drop-at, ext-getD, getD-append-add, getD-drop, getD-set-same, getD-set-other}
 use Rattle.arena.specs.Sets.{some, bit}
 use Rattle.arena.proofs.Loops.{some-more, tests}
 use Rattle.game.specs.Rows.{tabulate, fill, blank, zeros, Cells}
@@ -36,36 +36,33 @@ module _ {A : Type 0} where
   pub fill-done : (k n : ℕ) (f : ℕ → A) (d l : List A) → l ≡ fill k f d → k ≤ n → n ≤ k → l ≡ fill n f d
   fill-done k n f d l e h g = let q : k ≡ n = omega arith in rw q at e
 
-  tab-cell : (n i : ℕ) (f : ℕ → A) (d : List A) (k : ℕ) (a : A) → k < n → getD (tabulate i n f ++ d) k a ≡ f (k + i)
+  -- a table of n values has n places
+  tab-length : (n i : ℕ) (f : ℕ → A) → length (tabulate i n f) ≡ n
   unfolding tabulate
-  tab-cell zero i f d k a l = absurd (not-suc-le-zero l)
-  tab-cell (suc n) i f d zero a l = rw zero-add
-  tab-cell (suc n) i f d (suc k) a l = tab-cell n (suc i) f d k a (le-of-suc-le-suc l) ∙ ap f (add-suc k i ∙ sym (suc-add k i))
+  tab-length zero i f = refl
+  tab-length (suc n) i f = ap suc (tab-length n (suc i) f)
+
+  -- and they hold the values
+  tab-cell : (n i : ℕ) (f : ℕ → A) (k : ℕ) (a : A) → k < n → getD (tabulate i n f) k a ≡ f (k + i)
+  unfolding tabulate
+  tab-cell zero i f k a l = absurd (not-suc-le-zero l)
+  tab-cell (suc n) i f zero a l = rw zero-add
+  tab-cell (suc n) i f (suc k) a l = tab-cell n (suc i) f k a (le-of-suc-le-suc l) ∙ ap f (add-suc k i ∙ sym (suc-add k i))
 
   pub fill-cell : (n : ℕ) (f : ℕ → A) (d : List A) (k : ℕ) (a : A) → k < n → getD (fill n f d) k a ≡ f k
   unfolding fill
-  fill-cell n f d k a l = tab-cell n 0 f (drop n d) k a l ∙ ap f (add-zero k)
-
-  tab-past : (n i : ℕ) (f : ℕ → A) (d : List A) (k : ℕ) (a : A) → n ≤ k → getD (tabulate i n f ++ drop n d) k a ≡ getD d k a
-  unfolding tabulate
-  tab-past zero i f d k a l = refl
-  tab-past (suc n) i f d zero a l = absurd (not-suc-le-zero l)
-  tab-past (suc n) i f [] (suc k) a l = rw (drop-nil n) at (tab-past n (suc i) f [] k a (le-of-suc-le-suc l))
-  tab-past (suc n) i f (x ∷ d) (suc k) a l = tab-past n (suc i) f d k a (le-of-suc-le-suc l)
+  fill-cell n f d k a l = List·getD-append (tabulate 0 n f) (drop n d) a k (rw tab-length l) ∙ tab-cell n 0 f k a l ∙ ap f (add-zero k)
 
   pub fill-past : (n : ℕ) (f : ℕ → A) (d : List A) (k : ℕ) (a : A) → n ≤ k → getD (fill n f d) k a ≡ getD d k a
   unfolding fill
-  fill-past n f d k a l = tab-past n 0 f d k a l
-
-  tab-length : (n i : ℕ) (f : ℕ → A) (d : List A) → n ≤ length d → length (tabulate i n f ++ drop n d) ≡ length d
-  unfolding tabulate
-  tab-length zero i f d l = refl
-  tab-length (suc n) i f [] l = absurd (not-suc-le-zero l)
-  tab-length (suc n) i f (x ∷ d) l = ap suc (tab-length n (suc i) f d (le-of-suc-le-suc l))
+  fill-past n f d k a l =
+      let past : n + (k - n) ≡ k = omega arith in
+      let at : length (tabulate 0 n f) + (k - n) ≡ k = rw tab-length past in
+      (rw at at (getD-append-add (tabulate 0 n f) (drop n d) (k - n) a)) ∙ (rw past at (getD-drop n d (k - n) a))
 
   pub fill-length : (n : ℕ) (f : ℕ → A) (d : List A) → n ≤ length d → length (fill n f d) ≡ length d
   unfolding fill
-  fill-length n f d l = tab-length n 0 f d l
+  fill-length n f d l = simp (length-append, length-drop, tab-length) (omega arith)
 
   tab-cong : (n i : ℕ) (f g : ℕ → A) → ((k : ℕ) → k < n → f (k + i) ≡ g (k + i)) → tabulate i n f ≡ tabulate i n g
   unfolding tabulate
@@ -79,26 +76,18 @@ module _ {A : Type 0} where
   unfolding fill
   fill-cong n f g d h = ap (λ (t : List A). t ++ drop n d) (tab-cong n 0 f g (λ k l. rw add-zero (h k l)))
 
-  tab-row : (row : List A) (i : ℕ) (f : ℕ → A) (a : A) → ((k : ℕ) → k < length row → f (k + i) ≡ getD row k a) → tabulate i (length row) f ≡ row
-  unfolding tabulate
-  tab-row [] i f a h = refl
-  tab-row (x ∷ row) i f a h =
-      ap₂ _∷_ (rw zero-add at (h 0 (omega arith))) (tab-row row (suc i) f a (λ k l. rw (add-suc, ← suc-add) (h (suc k) (omega arith))))
-
   -- filled with the values of another row, a row begins with that one
   pub fill-row : (row : List A) (f : ℕ → A) (a : A) (d : List A) → ((k : ℕ) → k < length row → f k ≡ getD row k a) → fill (length row) f d ≡ row ++ drop (length row) d
   unfolding fill
-  fill-row row f a d h = ap (λ (t : List A). t ++ drop (length row) d) (tab-row row 0 f a (λ k l. rw add-zero (h k l)))
-
-  tab-drop : (n i : ℕ) (f : ℕ → A) (d : List A) → drop n (tabulate i n f ++ d) ≡ d
-  unfolding tabulate
-  tab-drop zero i f d = refl
-  tab-drop (suc n) i f d = tab-drop n (suc i) f d
+  fill-row row f a d h =
+      let n = length row in
+      ap (λ (t : List A). t ++ drop n d) (ext-getD a (tabulate 0 n f) row (tab-length n 0 f)
+      (λ k l. let m : k < n = rw tab-length at l in tab-cell n 0 f k a m ∙ rw add-zero (h k m)))
 
   -- the places that are not filled are the row's
   pub fill-drop : (n : ℕ) (f : ℕ → A) (d : List A) → drop n (fill n f d) ≡ drop n d
   unfolding fill
-  fill-drop n f d = tab-drop n 0 f (drop n d)
+  fill-drop n f d = drop-at (tabulate 0 n f) (drop n d) n (tab-length n 0 f)
 
   pub blank-length : (n : ℕ) (a : A) → length (blank n a) ≡ n
   unfolding blank

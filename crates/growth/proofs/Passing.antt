@@ -2,9 +2,11 @@
 use mathlib.Core.Path.{_≡_, refl, sym, ap, _∙_}
 use mathlib.Core.Bool.{Bool, true, false, not}
 use mathlib.Core.List.{List}
-use Prim.Native.Nat.{ℕ, zero, suc, _+_, _≤_, _<_}
+use Prim.Native.Nat.{ℕ, zero, suc, _+_, _-_, _≤_, _<_}
 use native.Mathlib.Numerals.{add-one}
 use native.Mathlib.Omega.{arith}
+use mir.Syntax.{w16, w64}
+use mir.Val.{Fits}
 use lib.ListN.{getD}
 use lib.Dec.{T, eqb, eqb·suc-zero}
 use Rattle.arena.proofs.Tests.{fails}
@@ -154,20 +156,42 @@ module _ (w : Net) {q : ℕ} {have row₀ queue₀ : List ℕ} {tail₀ : ℕ} (
       joins s l zero e = ap (λ (x : Bool). passNo (passAt row₀ s) x 2) (due s l e)
       joins s l (suc v) e = sym (pass-had (passAt row₀ s) (J s) 2 (λ z. absurd (omega arith))) ∙ pass-had (passAt row₀ s) _ 2 (λ z. absurd (omega arith))
 
--- the numbers of a pass
-pub record Within (w : Net) (pass end tail : ℕ) : Type 0 where
-  pub passes : pass ≤ end
-  pub ends : end ≤ tail
-  pub tails : tail ≤ w .states
-  pub few : w .states ≤ 512
+-- the numbers of a pass, as its loops ask for them
+pub record Within (w : Net) (pass end q tail : ℕ) : Type 0 where
+  pub number-fits : Fits w64 (pass + 2)
+  pub number-short : Fits w16 (pass + 2)
+  pub number-some : 1 ≤ pass + 2
+  pub in-queue : q < end → q < tail
+  pub next-fits : q < end → Fits w64 (q + 1)
+  pub next-less : q < end → end - (q + 1) < end - q
+  pub all-in : tail ≤ end → end ≡ tail
+  pub pass-fits : Fits w64 (pass + 1)
+  pub pass-less : end < tail → w .states - tail < w .states - end
 
-pub pass-within : {w : Net} → Sound w → {f : ℕ → ℕ} {pass end q : ℕ} {have hit row queue : List ℕ} {tail : ℕ} → Passing w f pass end q have hit row queue tail → Within w pass end tail
-pass-within {w} sound {row = row} was = record {
-  passes = was .steps;
-  ends = was .some;
-  tails = omega (arith, was .work .listed .as-many, count-le (w .states) (isIn row));
-  few = sound .few-states;
-}
+module _ {w : Net} (sound : Sound w) {pass end q : ℕ} {have hit row queue : List ℕ} {tail : ℕ} where
+  pub pass-within : {f : ℕ → ℕ} → Passing w f pass end q have hit row queue tail → Within w pass end q tail
+  pass-within was =
+      let low = was .steps in
+      let some = was .some in
+      let few = sound .few-states in
+      let tails : tail ≤ w .states = omega (arith, was .work .listed .as-many, count-le (w .states) (isIn row)) in
+      record {
+        number-fits = omega arith;
+        number-short = omega arith;
+        number-some = omega arith;
+        in-queue = λ l. omega arith;
+        next-fits = λ l. omega arith;
+        next-less = λ l. omega arith;
+        all-in = λ l. omega arith;
+        pass-fits = omega arith;
+        pass-less = λ l. omega arith;
+      }
+
+  -- what holds within a pass, of some passes before it and of those that P tells, holds after one state more
+  pub turn-on : {P : (ℕ → ℕ) → Type 0} → (f : ℕ → ℕ) × Passing w f pass end q have hit row queue tail → ((f : ℕ → ℕ) → P f → Passing w f pass end q have hit row queue tail)
+      → {have' hit' row' queue' : List ℕ} {tail' : ℕ} → q < end → Handled w (passAt row) (pass + 2) (q + 1) queue have' hit' row' queue' tail' → tail ≤ tail' → Alike tail queue' queue
+      → ((f : ℕ → ℕ) × Passing w f pass end (q + 1) have' hit' row' queue' tail') × ((f : ℕ → ℕ) → P f → Passing w f pass end (q + 1) have' hit' row' queue' tail')
+  turn-on was all l since more alike = ((was .0, pass-on sound (was .0) (was .1) l since more alike), λ f p. pass-on sound f (all f p) l since more alike)
 
 -- ripe by the rows is ripe by the counts
 pub ripe-rows : (w : Net) (t : ℕ → ℕ) (hit : List ℕ) (b : ℕ) → getD hit b 0 ≡ hits w t b → ripeBy (w .whole) (w .size) hit b ≡ ripe w t b

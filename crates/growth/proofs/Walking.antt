@@ -171,7 +171,7 @@ module _ {w : Net} (sound : Sound w) {last before : List ℕ} (linked : Linked (
       less : getD before (at - 1) 0 < at
       less = rw next (omega (arith, last-le (cellAt (w .to)) (at - 1) c))
 
-      pub turn : Turn w before have hit at
+      turn : Turn w before have hit at
       turn =
           let state = sound .froms .below (at - 1) move in
           let block-state = sound .blocks .below (getD (w .from) (at - 1) 0) state in
@@ -247,3 +247,7 @@ module _ {w : Net} (sound : Sound w) {last before : List ℕ} (linked : Linked (
     walk-ends e none =
         let z : at ≡ 0 = omega arith in
         rw (← walk-last (w .moves) (w .from) (w .to) q order c e) (rw z at (walking .work))
+
+    -- and, beside it, the numbers of its next turn
+    pub turning : Walking w old number q end order c have hit row queue tail at × (0 < at → Turn w before have hit at)
+    turning = (walking, turn)

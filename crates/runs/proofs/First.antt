@@ -1,5 +1,5 @@
 -- The three ends of a run: the hunting side surely has its way, or can no longer have it, or the allowance is used up.
-use Prim.Native.Nat.{ℕ, zero, suc, _+_, _≤_, _<_}
+use Prim.Native.Nat.{ℕ, _+_, _-_, _≤_, _<_}
 use mathlib.Core.Path.{_≡_, sym, _∙_}
 use mathlib.Core.Bool.{true, false, true≢false}
 use mathlib.Core.Logic.{inl, inr}
@@ -8,10 +8,10 @@ use native.Mathlib.Omega.{arith}
 use Rattle.arena.proofs.Tests.{is-true, is-false}
 use Rattle.game.specs.Accepted.{AcceptedGame}
 use Rattle.game.specs.declared.Game.{Game}
-use Rattle.runs.specs.Run.{lowestFirst, OPEN, word, run, round}
+use Rattle.runs.specs.Run.{lowestFirst, run, round}
 use Rattle.runs.specs.Hunting.{caught, catchable}
 use Rattle.runs.specs.First.{UncaughtBefore, CatchableBefore, Bisecting}
-use Rattle.runs.proofs.Settled.{caught-catchable, word-open, open-unsettled, run-is, caught-later, catchable-earlier, open-earlier}
+use Rattle.runs.proofs.Settled.{caught-catchable, word-open, open-unsettled, run-is, catchable-earlier, uncaught-earlier, open-earlier}
 
 -- ## Which rounds are known not to be settled
 
@@ -27,14 +27,9 @@ uncaught-more g k h j e = let q : j ≡ k = omega arith in rw q h
 pub catchable-none : (g : Game) → CatchableBefore g 0
 catchable-none g i l = absurd (not-suc-le-zero l)
 
-module _ (g : Game) (ok : AcceptedGame g) where
-  -- if the hunting side may have its way in this round, it may in all before the next
-  pub catchable-more : (k : ℕ) → catchable (round lowestFirst k g) ≡ true → CatchableBefore g (k + 1)
-  catchable-more k h i l = catchable-earlier lowestFirst g ok i k (omega arith) h
-
-  -- if the hunting side does not surely have its way in this round, it does not in any before
-  pub uncaught-earlier : (j k : ℕ) → j ≤ k → caught (round lowestFirst k g) ≡ false → caught (round lowestFirst j g) ≡ false
-  uncaught-earlier j k l h = is-false _ (λ x. true≢false (sym (caught-later lowestFirst g ok j k l (is-true _ x)) ∙ h))
+-- if the hunting side may have its way in this round, it may in all before the next
+pub catchable-more : (g : Game) (ok : AcceptedGame g) (k : ℕ) → catchable (round lowestFirst k g) ≡ true → CatchableBefore g (k + 1)
+catchable-more g ok k h i l = catchable-earlier lowestFirst g ok i k (omega arith) h
 
 -- a round in which the hunting side cannot have its way is not one in which it surely does
 pub lost-uncaught : (g : Game) → catchable g ≡ false → caught g ≡ false
@@ -58,19 +53,16 @@ module _ (g : Game) (ok : AcceptedGame g) (a : ℕ) where
   pub settled-run : {lo hi : ℕ} → Bisecting g lo hi → hi ≤ lo → hi ≤ a → run lowestFirst a g ≡ record { splits = hi; last = round lowestFirst hi g }
   settled-run {lo} {hi} b l m =
       run-is lowestFirst a hi g m
-      (λ i k. word-open (round lowestFirst i g) (uncaught-earlier g ok i hi (omega arith) (lost-uncaught (round lowestFirst hi g) (b .lost))) (b .hope i (omega arith)))
+      (λ i k. word-open (round lowestFirst i g) (uncaught-earlier lowestFirst g ok i hi (omega arith) (lost-uncaught (round lowestFirst hi g) (b .lost))) (b .hope i (omega arith)))
       (inl (λ e. true≢false (sym (open-unsettled (round lowestFirst hi g) e .1) ∙ b .lost)))
 
   -- the first round in which the hunting side surely has its way: the run ends there
   pub caught-run : (k : ℕ) → k ≤ a → UncaughtBefore g k → caught (round lowestFirst k g) ≡ true → run lowestFirst a g ≡ record { splits = k; last = round lowestFirst k g }
   caught-run k m before h =
-      run-is lowestFirst a k g m (open-before k before h) (inl (λ e. true≢false (sym h ∙ open-unsettled (round lowestFirst k g) e .0)))
-    where
-      open-before : (k : ℕ) → UncaughtBefore g k → caught (round lowestFirst k g) ≡ true → (i : ℕ) → i < k → word (round lowestFirst i g) ≡ OPEN
-      open-before zero before h i l = absurd (not-suc-le-zero l)
-      open-before (suc j) before h i l =
-          word-open (round lowestFirst i g) (uncaught-earlier g ok i j (omega arith) (before j (omega arith)))
-          (catchable-earlier lowestFirst g ok i (suc j) (omega arith) (caught-catchable (round lowestFirst (suc j) g) h))
+      run-is lowestFirst a k g m
+      (λ i l. word-open (round lowestFirst i g) (uncaught-earlier lowestFirst g ok i (k - 1) (omega arith) (before (k - 1) (omega arith)))
+      (catchable-earlier lowestFirst g ok i k (omega arith) (caught-catchable (round lowestFirst k g) h)))
+      (inl (λ e. true≢false (sym h ∙ open-unsettled (round lowestFirst k g) e .0)))
 
   -- a round that is not settled, with all allowed splits made: the run ends there
   pub open-run : (k : ℕ) → k ≡ a → caught (round lowestFirst k g) ≡ false → catchable (round lowestFirst k g) ≡ true → run lowestFirst a g ≡ record { splits = k; last = round lowestFirst k g }

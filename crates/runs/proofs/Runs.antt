@@ -1,7 +1,6 @@
 -- Laws of a run: all but the blocks stays what it was, each split is one of an open round, and the splits are counted.
-use Prim.Native.Nat.{ℕ, zero, suc, _+_, _≤_, _<_}
+use Prim.Native.Nat.{ℕ, zero, suc, _+_, _≤_}
 use mathlib.Core.Path.{_≡_, refl, sym, ap, _∙_}
-use native.Mathlib.Nat.{not-suc-le-zero, le-of-suc-le-suc}
 use native.Mathlib.Omega.{arith}
 use Rattle.game.specs.Game.{blockAt, initials, reblocked}
 use Rattle.game.specs.Accepted.{AcceptedGame}
@@ -11,22 +10,35 @@ use Rattle.blocks.proofs.Split.{blockCount-le}
 use Rattle.runs.specs.Run.{Choice, Word, YES, NO, OPEN, word, Borders, splitGame, Run, oneMore, ended, ifOpen, run, round}
 use Rattle.runs.proofs.Rounds.{split-accepted, split-one-more}
 
+-- YES is not OPEN
+pub yes-open : {A : Type 0} → YES ≡ OPEN → A
+yes-open e = let z : _≡_ {A = ℕ} 0 1 = cc in absurd (omega arith)
+
+-- NO is not OPEN
+pub no-open : {A : Type 0} → NO ≡ OPEN → A
+no-open e = let z : _≡_ {A = ℕ} 0 1 = cc in absurd (omega arith)
+
+-- what holds where a run ends, and of one split more in an open round, holds of every run
+run-ind : (choose : Choice) (P : ℕ → Game → Run → Type 0)
+    → ((a : ℕ) (g : Game) → (word g ≡ OPEN → 0 ≡ a) → P a g (ended g))
+    → ((a : ℕ) (g : Game) (r : Run) → word g ≡ OPEN → P a (splitGame choose g) r → P (suc a) g (oneMore r))
+    → (a : ℕ) (g : Game) → P a g (run choose a g)
+unfolding run
+run-ind choose P end more zero g = end 0 g (λ e. refl)
+run-ind choose P end more (suc a) g = go (word g) refl (run-ind choose P end more a (splitGame choose g))
+  where
+    go : (w : Word) → word g ≡ w → P a (splitGame choose g) (run choose a (splitGame choose g))
+        → P (suc a) g (ifOpen w (oneMore (run choose a (splitGame choose g))) (ended g))
+    go YES e ih = end (suc a) g (λ q. yes-open (sym e ∙ q))
+    go NO e ih = end (suc a) g (λ q. no-open (sym e ∙ q))
+    go OPEN e ih = more a g _ e ih
+
 -- ## What a run keeps
 
 -- the last game of a run is the first but for the row of blocks
 pub run-kept : (choose : Choice) (a : ℕ) (g : Game) → run choose a g .last ≡ reblocked g (run choose a g .last .block)
-unfolding run splitGame
-run-kept choose zero g = refl
-run-kept choose (suc a) g = go (word g) (run-kept choose a (splitGame choose g))
-  where
-    more : Run
-    more = run choose a (splitGame choose g)
-
-    go : (w : Word) → more .last ≡ reblocked (splitGame choose g) (more .last .block)
-        → ifOpen w (oneMore more) (ended g) .last ≡ reblocked g (ifOpen w (oneMore more) (ended g) .last .block)
-    go YES ih = refl
-    go NO ih = refl
-    go OPEN ih = ih
+unfolding splitGame
+run-kept choose = run-ind choose (λ a g r. r .last ≡ reblocked g (r .last .block)) (λ a g o. refl) (λ a g r o ih. ih)
 
 module _ (choose : Choice) (a : ℕ) (g : Game) where
   -- the states are as many
@@ -45,36 +57,10 @@ unfolding round
 round-accepted choose zero g ok = ok
 round-accepted choose (suc k) g ok = round-accepted choose k (splitGame choose g) (split-accepted choose g ok)
 
--- each round before the last is open
-pub run-open : (choose : Choice) (a : ℕ) (g : Game) (k : ℕ) → k < run choose a g .splits → word (round choose k g) ≡ OPEN
-unfolding run round
-run-open choose zero g k l = absurd (not-suc-le-zero l)
-run-open choose (suc a) g k l = go (word g) refl k l (run-open choose a (splitGame choose g))
-  where
-    more : Run
-    more = run choose a (splitGame choose g)
-
-    go : (w : Word) → word g ≡ w → (k : ℕ) → k < ifOpen w (oneMore more) (ended g) .splits
-        → ((j : ℕ) → j < more .splits → word (round choose j (splitGame choose g)) ≡ OPEN) → word (round choose k g) ≡ OPEN
-    go YES e k l ih = absurd (not-suc-le-zero l)
-    go NO e k l ih = absurd (not-suc-le-zero l)
-    go OPEN e zero l ih = e
-    go OPEN e (suc k) l ih = ih k (le-of-suc-le-suc l)
-
 -- the last round is the one after as many splits as were made
 pub run-round : (choose : Choice) (a : ℕ) (g : Game) → run choose a g .last ≡ round choose (run choose a g .splits) g
-unfolding run round
-run-round choose zero g = refl
-run-round choose (suc a) g = go (word g) (run-round choose a (splitGame choose g))
-  where
-    more : Run
-    more = run choose a (splitGame choose g)
-
-    go : (w : Word) → more .last ≡ round choose (more .splits) (splitGame choose g)
-        → ifOpen w (oneMore more) (ended g) .last ≡ round choose (ifOpen w (oneMore more) (ended g) .splits) g
-    go YES ih = refl
-    go NO ih = refl
-    go OPEN ih = ih
+unfolding round
+run-round choose = run-ind choose (λ a g r. r .last ≡ round choose (r .splits) g) (λ a g o. refl) (λ a g r o ih. ih)
 
 -- ## The splits
 
@@ -88,37 +74,19 @@ pub record Ended (a : ℕ) (g : Game) (r : Run) : Type 0 where
   pub allowed : r .splits ≤ a
   pub used : word (r .last) ≡ OPEN → r .splits ≡ a
 
--- the three words differ
-pub yes-no : {A : Type 0} → YES ≡ NO → A
-yes-no e = let z : _≡_ {A = ℕ} 0 1 = cc in absurd (omega arith)
-
--- YES is not OPEN
-pub yes-open : {A : Type 0} → YES ≡ OPEN → A
-yes-open e = let z : _≡_ {A = ℕ} 0 1 = cc in absurd (omega arith)
-
--- NO is not OPEN
-pub no-open : {A : Type 0} → NO ≡ OPEN → A
-no-open e = let z : _≡_ {A = ℕ} 0 1 = cc in absurd (omega arith)
-
 -- every run of an accepted game comes to such an end
 pub run-ended : (choose : Choice) → Borders choose → (a : ℕ) (g : Game) → AcceptedGame g → Ended a g (run choose a g)
-unfolding run
-run-ended choose borders zero g ok = record { accepted = ok; counted = omega arith; allowed = omega arith; used = λ e. refl }
-run-ended choose borders (suc a) g ok = go (word g) refl (run-ended choose borders a (splitGame choose g) (split-accepted choose g ok))
-  where
-    more : Run
-    more = run choose a (splitGame choose g)
-
-    go : (w : Word) → word g ≡ w → Ended a (splitGame choose g) more → Ended (suc a) g (ifOpen w (oneMore more) (ended g))
-    go YES e ih = record { accepted = ok; counted = omega arith; allowed = omega arith; used = λ q. yes-open (sym e ∙ q) }
-    go NO e ih = record { accepted = ok; counted = omega arith; allowed = omega arith; used = λ q. no-open (sym e ∙ q) }
-    go OPEN e ih =
-        record {
-          accepted = ih .accepted;
-          counted = omega (arith, ih .counted, split-one-more choose g ok (borders g ok e));
-          allowed = omega (arith, ih .allowed);
-          used = λ q. ap suc (ih .used q);
-        }
+run-ended choose borders =
+    run-ind choose (λ a g r. AcceptedGame g → Ended a g r)
+    (λ a g over ok. record { accepted = ok; counted = omega arith; allowed = omega arith; used = over })
+    (λ a g r e rest ok.
+    let ih = rest (split-accepted choose g ok) in
+    record {
+      accepted = ih .accepted;
+      counted = omega (arith, ih .counted, split-one-more choose g ok (borders g ok e));
+      allowed = omega (arith, ih .allowed);
+      used = λ q. ap suc (ih .used q);
+    })
 
 module _ (choose : Choice) (borders : Borders choose) (a : ℕ) (g : Game) (ok : AcceptedGame g) where
   -- the splits are at most the states minus the starting blocks

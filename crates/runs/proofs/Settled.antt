@@ -8,8 +8,8 @@ use native.Mathlib.Decide.{le-ind}
 use native.Mathlib.Omega.{arith}
 use lib.Dec.{T, eqb}
 use borrow.Author.Tests.{eq-eqb}
-use Rattle.arena.specs.Sets.{Set, imp, some, every, least}
-use Rattle.arena.specs.Arena.{Arena}
+use Rattle.arena.specs.Sets.{Set, compl, imp, some, every, least}
+use Rattle.arena.specs.Arena.{Side, two, Arena}
 use Rattle.arena.specs.Win.{Goal, toReach, toStay}
 use Rattle.arena.proofs.Tests.{is-true, is-false, holds, fails, and-intro, and-not}
 use Rattle.arena.proofs.Sets.{Sub, not-every, some-intro, meets-in, meets-out, within-in, within-out}
@@ -60,51 +60,37 @@ huntedWord toStay = YES
 some-outside : (n : ℕ) (starts X : Set) → some n (λ s. starts s && not (X s)) ≡ not (every n (λ s. imp (starts s) (X s)))
 some-outside n starts X = simp and-not (not-every n (λ s. imp (starts s) (X s)))
 
+-- the two orders in which a round may be told: whether it may be won comes first, or whether it surely is
+reach-word : (lo up : Bool) → (lo ≡ true → up ≡ true) → cond (not up) NO (cond lo YES OPEN) ≡ cond lo YES (cond up OPEN NO)
+reach-word true up h = rw (h refl)
+reach-word false true h = refl
+reach-word false false h = refl
+
+stay-word : (lo up : Bool) → cond (not (not lo)) NO (cond (not up) YES OPEN) ≡ cond lo NO (cond up OPEN YES)
+stay-word true up = refl
+stay-word false true = refl
+stay-word false false = refl
+
+module _ (g : Arena) (block : ℕ → ℕ) (n : ℕ) (starts A : Set) where
+  -- whether the hunting side has its way by what it surely brings about (lower), or by what it may (upper)
+  abbrev wayBy : (Arena → (ℕ → ℕ) → Side → Set → Set) → Goal → Bool
+  wayBy brings o = hasWay o n starts (brings g block (hunter o) (prey o A))
+
+  -- 01's word, from the side that hunts
+  word-of : (o : Goal) → (wayBy lower o ≡ true → wayBy upper o ≡ true)
+      → cond (not (some n (λ s. starts s && possible g block o A s))) NO (cond (some n (λ s. starts s && sure g block o A s)) YES OPEN)
+      ≡ cond (wayBy lower o) (huntersWord o) (cond (wayBy upper o) OPEN (huntedWord o))
+  unfolding hasWay
+  word-of toReach h = rw (possible-reach g block A, sure-reach g block A) (reach-word (wayBy lower toReach) (wayBy upper toReach) h)
+  word-of toStay h =
+      rw (possible-stay g block A, sure-stay g block A)
+      (rw (some-outside n starts (lower g block two (compl A)), some-outside n starts (upper g block two (compl A)))
+      (stay-word (wayBy lower toStay) (wayBy upper toStay)))
+
 -- the word of a round: the hunter's where it surely has its way, open where it may, and the other side's where it cannot
 pub word-is : (g : Game) → word g ≡ cond (caught g) (huntersWord (goalOf (g .objective))) (cond (catchable g) OPEN (huntedWord (goalOf (g .objective))))
-unfolding word hasWay
-word-is g = go (goalOf (g .objective)) (caught-catchable g)
-  where
-    reach-word : (lo up : Bool) → (lo ≡ true → up ≡ true) → cond (not up) NO (cond lo YES OPEN) ≡ cond lo YES (cond up OPEN NO)
-    reach-word true true h = refl
-    reach-word true false h = absurd (true≢false (sym (h refl)))
-    reach-word false true h = refl
-    reach-word false false h = refl
-
-    stay-word : (lo up : Bool) → cond (not (not lo)) NO (cond (not up) YES OPEN) ≡ cond lo NO (cond up OPEN YES)
-    stay-word true up = refl
-    stay-word false true = refl
-    stay-word false false = refl
-
-    G : Arena
-    G = arenaOf g
-
-    B : ℕ → ℕ
-    B = blockAt g
-
-    A : Set
-    A = targets g
-
-    starting : Set → Bool
-    starting X = some (g .states) (λ s. initials g s && X s)
-
-    low : Goal → Set
-    low o = lower G B (hunter o) (prey o A)
-
-    high : Goal → Set
-    high o = upper G B (hunter o) (prey o A)
-
-    way : Goal → Set → Bool
-    way o X = hasWay o (g .states) (initials g) X
-
-    go : (o : Goal) → (way o (low o) ≡ true → way o (high o) ≡ true)
-        → cond (not (starting (possible G B o A))) NO (cond (starting (sure G B o A)) YES OPEN)
-        ≡ cond (way o (low o)) (huntersWord o) (cond (way o (high o)) OPEN (huntedWord o))
-    go toReach h = rw (possible-reach G B A, sure-reach G B A) (reach-word (way toReach (low toReach)) (way toReach (high toReach)) h)
-    go toStay h =
-        rw (possible-stay G B A, sure-stay G B A)
-        (rw (some-outside (g .states) (initials g) (low toStay), some-outside (g .states) (initials g) (high toStay))
-        (stay-word (way toStay (low toStay)) (way toStay (high toStay))))
+unfolding word
+word-is g = word-of (arenaOf g) (blockAt g) (g .states) (initials g) (targets g) (goalOf (g .objective)) (caught-catchable g)
 
 -- a round that is not settled is open as yet
 pub word-open : (g : Game) → caught g ≡ false → catchable g ≡ true → word g ≡ OPEN
@@ -181,12 +167,13 @@ module _ (choose : Choice) (g : Game) (ok : AcceptedGame g) (j k : ℕ) (l : j �
       le-ind (λ m. catchable (round choose m g) ≡ true → catchable (round choose j g) ≡ true) (λ x. x)
       (λ m _ back x. back (catchable-split choose (round choose m g) (round-accepted choose m g ok) (rw (round-more choose m g) at x))) k l
 
+  -- if the hunting side does not surely have its way, it does not in any earlier round
+  pub uncaught-earlier : caught (round choose k g) ≡ false → caught (round choose j g) ≡ false
+  uncaught-earlier lo = is-false _ (λ x. true≢false (sym (caught-later (is-true _ x)) ∙ lo))
+
   -- a round that is not settled has none settled before it
   pub open-earlier : caught (round choose k g) ≡ false → catchable (round choose k g) ≡ true → word (round choose j g) ≡ OPEN
-  open-earlier lo up =
-      word-open (round choose j g)
-      (is-false (caught (round choose j g)) (λ x. true≢false (sym (caught-later (is-true (caught (round choose j g)) x)) ∙ lo)))
-      (catchable-earlier up)
+  open-earlier lo up = word-open (round choose j g) (uncaught-earlier lo) (catchable-earlier up)
 
 -- ## The border block without what may come about
 

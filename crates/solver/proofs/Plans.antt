@@ -1,5 +1,5 @@
 -- The plan that the code works out is the rule of the side that wins.
-use mathlib.Core.Path.{_≡_, refl, sym, ap, ap₂, _∙_, fun-ext}
+use mathlib.Core.Path.{_≡_, refl, sym, ap, ap₂, _∙_}
 use mathlib.Core.Bool.{Bool, true, false, not, _&&_, cond, and-false, true≢false}
 use mathlib.Core.List.{List}
 use mathlib.Core.Logic.{⊎-elim}
@@ -11,15 +11,13 @@ use lib.Dec.{T, eqb, ltb, eqb·suc-zero}
 use borrow.Author.Tests.{le-ltb}
 use Rattle.arena.specs.Sets.{Set, compl, some, least}
 use Rattle.arena.specs.Arena.{Side, one, two, other, same, mine}
-use Rattle.arena.specs.Win.{Goal, toReach, toStay}
 use Rattle.arena.specs.Passes.{grow}
-use Rattle.arena.proofs.Tests.{not-not, holds, fails}
+use Rattle.arena.proofs.Tests.{holds, fails}
 use Rattle.arena.proofs.Loops.{le-or-lt, some-cong, some-none}
 use Rattle.arena.proofs.Least.{least-cong}
 use Rattle.arena.proofs.Passes.{rank-le}
-use Rattle.game.specs.Game.{knownTurn, blockAt, turnAt, fromAt, toAt, targets, hasMove}
+use Rattle.game.specs.Game.{knownTurn, blockAt, turnAt, fromAt, toAt, hasMove}
 use Rattle.game.specs.Published.{sideOf, goalOf, arenaOf}
-use Rattle.game.specs.declared.StateNo.{StateNo}
 use Rattle.game.specs.declared.Game.{Game}
 use Rattle.game.proofs.Turns.{same-turn, other-turn}
 use Rattle.blocks.specs.Round.{insideStep}
@@ -27,7 +25,7 @@ use Rattle.blocks.specs.Hunt.{hunter, lower}
 use Rattle.growth.proofs.Stamp.{stamp-rank}
 use Rattle.runs.specs.Run.{Word, YES, NO, OPEN, word}
 use Rattle.arena.specs.Plan.{noMove}
-use Rattle.solver.specs.Rules.{successors, advice, rule, planned}
+use Rattle.solver.specs.Rules.{successors, advice, planned}
 use Rattle.runs.specs.Hunting.{huntingSide, preyStates, lowerStates, upperStates}
 use Rattle.solver.specs.Work.{goodMove, lowestGood, Walk, passOf, Worked, Planning, chaseRank, chaseRule, fleeRule, winnerRule}
 use Rattle.solver.specs.Solve.{decisionOf}

@@ -8,8 +8,7 @@ use lib.ListN.{getD}
 use lib.Dec.{T, eqb}
 use Rattle.arena.specs.Sets.{Set, bit}
 use Rattle.game.specs.Limits.{maxStates, maxMoves}
-use Rattle.game.specs.Rows.{fill}
-use Rattle.game.specs.Game.{knownTurn, marked, turnAt, blockAt, fromAt}
+use Rattle.game.specs.Game.{knownTurn, marked, turnAt, fromAt}
 use Rattle.game.specs.Published.{sideOf, goalOf}
 use Rattle.file.specs.Layout.{states, moves, objective as objectiveOf, turn as turnOf, marks as marksOf, block as blockOf, from as fromOf, to as toOf}
 use Rattle.file.specs.Refusals.{refusal}

@@ -1,11 +1,10 @@
 -- `run_passes` meets its contract: before each pass the row holds the passes so far.
 use Prim.Native.Nat.{ℕ, _-_}
 use mathlib.Core.Path.{_≡_, refl, _∙_}
-use native.Mathlib.Omega.{arith}
 use lib.ListN.{length}
 use Rattle.growth.specs.Net.{net}
 use Rattle.growth.specs.Queue.{Passing}
-use Rattle.growth.proofs.Passing.{pass-work, pass-on, pass-next, pass-last, pass-grown, pass-within}
+use Rattle.growth.proofs.Passing.{pass-work, turn-on, pass-next, pass-last, pass-grown, pass-within}
 use Rattle.growth.proofs.run_passes.Statement.{statement}
 use Rattle.growth.proofs.run_passes.Tie as tie
 
@@ -32,17 +31,16 @@ run-passes-spec =
     tie.close
     (tie.spec Inv-loop2 μ-loop2 Inv-loop μ-loop
     (λ c. (c .before .before .before .before .before .before .before .before .before .before .before .before .before .pre .3, (λ f was. was), refl, refl, refl, refl))
-    (λ c. let k = pass-within (c .before .before .before .before .before .before .before .before .before .before .before .before .before .before .pre .0) (c .loop .inv .0 .1) in omega arith)
-    (λ c. let k = pass-within (c .before .before .before .before .before .before .before .before .before .before .before .before .before .before .pre .0) (c .loop .inv .0 .1) in omega arith)
+    (λ c. pass-within (c .before .before .before .before .before .before .before .before .before .before .before .before .before .before .pre .0) (c .loop .inv .0 .1) .number-fits)
+    (λ c. pass-within (c .before .before .before .before .before .before .before .before .before .before .before .before .before .before .pre .0) (c .loop .inv .0 .1) .number-short)
     (λ c. (c .loop .inv .0, (λ f was. was), refl, refl, refl, refl))
-    (λ c κs. (let start = c .before .before .before .before .before .before .before .before .before .before .before .before .before .before .before .before .before .before .before .before in let was = c .before .before .before .before .before .loop2 .inv .0 in let k = pass-within (start .pre .0) (was .1) in (start .pre .0, start .pre .1, start .pre .2, omega (arith, c .before .before .before .before .loop2-test .taken), omega arith, pass-work (start .pre .0) (was .0) (was .1))))
-    (λ c. let k = pass-within (c .before .before .before .before .before .before .before .before .before .before .before .before .before .before .before .before .before .before .before .before .before .before .before .before .before .before .before .before .before .pre .0) (c .before .before .before .before .before .before .before .before .before .before .before .before .before .before .loop2 .inv .0 .1) in omega (arith, c .before .before .before .before .before .before .before .before .before .before .before .before .before .loop2-test .taken))
-    (λ c. let k = pass-within (c .before .before .before .before .before .before .before .before .before .before .before .before .before .before .before .before .before .before .before .before .before .before .before .before .before .before .before .before .before .pre .0) (c .before .before .before .before .before .before .before .before .before .before .before .before .before .before .loop2 .inv .0 .1) in omega (arith, c .before .before .before .before .before .before .before .before .before .before .before .before .before .loop2-test .taken))
-    (λ c. let start = c .before .before .before .before .before .before .before .before .before .before .before .before .before .before .before .before .before .before .before .before .before .before .before .before .before .before .before .before .before in
-    let inv = c .before .before .before .before .before .before .before .before .before .before .before .before .before .before .loop2 .inv in
-    let left = c .before .before .before .before .before .before .before .before .before .before .before .before .before .loop2-test .taken in
+    (λ c κs. (let start = c .before .before .before .before .before .before .before .before .before .before .before .before .before .before .before .before .before .before .before .before in let was = c .before .before .before .before .before .loop2 .inv .0 in let k = pass-within (start .pre .0) (was .1) in (start .pre .0, start .pre .1, start .pre .2, k .in-queue (c .before .before .before .before .loop2-test .taken), k .number-some, pass-work (start .pre .0) (was .0) (was .1))))
+    (λ c. pass-within (c .before .before .before .before .before .before .before .before .before .before .before .before .before .before .before .before .before .before .before .before .before .before .before .before .before .before .before .before .before .pre .0) (c .before .before .before .before .before .before .before .before .before .before .before .before .before .before .loop2 .inv .0 .1) .next-fits (c .before .before .before .before .before .before .before .before .before .before .before .before .before .loop2-test .taken))
+    (λ c. pass-within (c .before .before .before .before .before .before .before .before .before .before .before .before .before .before .before .before .before .before .before .before .before .before .before .before .before .before .before .before .before .pre .0) (c .before .before .before .before .before .before .before .before .before .before .before .before .before .before .loop2 .inv .0 .1) .next-less (c .before .before .before .before .before .before .before .before .before .before .before .before .before .loop2-test .taken))
+    (λ c. let inv = c .before .before .before .before .before .before .before .before .before .before .before .before .before .before .loop2 .inv in
     let done = c .before .before .before .before .before .before .before .before .walk .ensures in
-    ((inv .0 .0, pass-on (start .pre .0) (inv .0 .0) (inv .0 .1) left (done .0) (done .1) (done .2)), (λ f was. pass-on (start .pre .0) f (inv .1 f was) left (done .0) (done .1) (done .2)), c .before .before .before .before .before .before .before .have .given ∙ inv .2, c .before .before .before .before .before .hit .given ∙ inv .3, c .before .before .before .row .given ∙ inv .4, c .before .queue .given ∙ inv .5))
+    let on = turn-on (c .before .before .before .before .before .before .before .before .before .before .before .before .before .before .before .before .before .before .before .before .before .before .before .before .before .before .before .before .before .pre .0) (inv .0) (inv .1) (c .before .before .before .before .before .before .before .before .before .before .before .before .before .loop2-test .taken) (done .0) (done .1) (done .2) in
+    (on .0, on .1, c .before .before .before .before .before .before .before .have .given ∙ inv .2, c .before .before .before .before .before .hit .given ∙ inv .3, c .before .before .before .row .given ∙ inv .4, c .before .queue .given ∙ inv .5))
     (λ c. c .before .before .loop2 .inv .2 ∙ c .before .before .before .loop .inv .2)
     (λ c. c .before .before .loop2 .inv .3 ∙ c .before .before .before .loop .inv .3)
     (λ c. c .before .before .loop2 .inv .4 ∙ c .before .before .before .loop .inv .4)
@@ -50,11 +48,10 @@ run-passes-spec =
     (λ c. let start = c .before .before .before .before .before .before .before .before .before .before .before .before .before .before .before .before .before in
     let inv = c .before .before .loop2 .inv in
     let over = c .before .loop2-test .left in
-    let k = pass-within (start .pre .0) (inv .0 .1) in
-    let e : c .before .before .before .loop .end ≡ c .before .before .loop2 .tail = omega (arith, c .if1 .taken) in
+    let e = pass-within (start .pre .0) (inv .0 .1) .all-in (c .if1 .taken) in
     (pass-grown (start .pre .0) (inv .0 .0) (inv .0 .1) over e, λ f was. pass-last (start .pre .0) f (inv .1 f (c .before .before .before .loop .inv .1 f was)) over e))
-    (λ c. let k = pass-within (c .before .before .before .before .before .before .before .before .before .before .before .before .before .before .before .before .before .pre .0) (c .before .before .loop2 .inv .0 .1) in omega (arith, c .if1 .left))
-    (λ c. let k = pass-within (c .before .before .before .before .before .before .before .before .before .before .before .before .before .before .before .before .before .pre .0) (c .before .before .loop2 .inv .0 .1) in omega (arith, c .if1 .left))
+    (λ c. pass-within (c .before .before .before .before .before .before .before .before .before .before .before .before .before .before .before .before .before .pre .0) (c .before .before .loop2 .inv .0 .1) .pass-fits)
+    (λ c. pass-within (c .before .before .before .before .before .before .before .before .before .before .before .before .before .before .before .before .before .pre .0) (c .before .before .loop2 .inv .0 .1) .pass-less (c .if1 .left))
     (λ c. let start = c .before .before .before .before .before .before .before .before .before .before .before .before .before .before .before .before .before in
     let inv = c .before .before .loop2 .inv in
     let over = c .before .loop2-test .left in

@@ -29,18 +29,10 @@ earlier-blocks-spec =
     (tie.spec Inv-loop μ-loop
     (λ c. (c .before .before .before .pre .0 .4, omega arith, (λ g made log l was. was), refl))
     (λ c. search places)
-    (λ c.
-    let given = c .before .before .before .before .before .pre .0 in
-    omega (arith, given .2 .parents-long, given .3, c .loop-test .taken))
-    (λ c.
-    let given = c .before .before .before .before .before .before .pre .0 in
-    omega (arith, given .2 .parents-long, given .3, c .before .loop-test .taken))
-    (λ c.
-    let given = c .before .before .before .before .before .before .pre .0 in
-    omega (arith, given .2 .parents-long, given .3, c .before .loop-test .taken))
-    (λ c.
-    let given = c .before .before .before .before .before .before .before .pre .0 in
-    omega (arith, given .2 .names-long, given .3, c .before .before .loop-test .taken))
+    (λ c. let given = c .before .before .before .before .before .pre .0 in omega (arith, given .2 .parents-long, given .3, c .loop-test .taken))
+    (λ c. let given = c .before .before .before .before .before .before .pre .0 in omega (arith, given .2 .parents-long, given .3, c .before .loop-test .taken))
+    (λ c. let given = c .before .before .before .before .before .before .pre .0 in omega (arith, given .2 .parents-long, given .3, c .before .loop-test .taken))
+    (λ c. let given = c .before .before .before .before .before .before .before .pre .0 in omega (arith, given .2 .names-long, given .3, c .before .before .loop-test .taken))
     (λ c κs.
     let at-loop = c .before .before .before .before in
     let start = at-loop .before .before .before .before in
