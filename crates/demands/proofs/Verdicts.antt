@@ -10,7 +10,7 @@ use Rattle.game.specs.Accepted.{AcceptedGame}
 use Rattle.game.specs.declared.Game.{Game}
 use Rattle.blocks.proofs.Sound.{sure-wins, wins-possible, never-spoils}
 use Rattle.runs.specs.Run.{sureStates, possibleStates, YES, NO, namedStart}
-use Rattle.runs.proofs.Rounds.{Says, accepted-live}
+use Rattle.runs.proofs.Rounds.{WordSays, accepted-live}
 use Rattle.solver.specs.Rules.{mark}
 use Rattle.demands.specs.Winners.{Wins, SomeStartWins}
 use Rattle.demands.specs.Meaning.{Marked}
@@ -48,13 +48,13 @@ module _ (g : Game) (ok : AcceptedGame g) where
       }
 
   -- YES: side 1 wins from the named start
-  pub yes-means : Says g YES → (namedStart g < g .states) × T (initials g (namedStart g)) × Wins g (namedStart g)
+  pub yes-means : WordSays g YES → (namedStart g < g .states) × T (initials g (namedStart g)) × Wins g (namedStart g)
   unfolding arenaOf
   yes-means h =
       (h .0, h .1, sure-wins (arenaOf g) (blockAt g) (targets g) (accepted-live g ok) (goalOf (g .objective)) (namedStart g) (h .0) (h .2))
 
   -- NO: it wins from no start
-  pub no-means : Says g NO → SomeStartWins g → ⊥
+  pub no-means : WordSays g NO → SomeStartWins g → ⊥
   unfolding arenaOf
   no-means h w =
       h (w .0) (w .1) (w .2) (wins-possible (arenaOf g) (blockAt g) (targets g) (accepted-live g ok) (goalOf (g .objective)) (w .0) (w .1) (w .3))

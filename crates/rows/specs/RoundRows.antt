@@ -122,10 +122,14 @@ pub record Ending (n m objective allowance clear made : ℕ) (lost : Bool) (star
   pub settled : lost ≡ true → Bisecting game clear made
   pub blocks-are : Holds n block (blockAt (round lowestFirst made game))
 
--- the row holds the pass in which each state entered what the hunting side surely brings about
+-- the pass in which each state entered what the hunting side surely brings about
+abbrev pub lowerPass : Game → ℕ → ℕ
+lowerPass g s = stamp (insideStep (arenaOf g) (blockAt g) (huntingSide g)) (preyStates g) (g .states) s
+
+-- the row holds these passes
 pub record Numbered (g : Game) (n : ℕ) (lower : List ℕ) : Type 0 where
   pub long : n ≤ length lower
-  pub pass-is : (s : ℕ) → s < g .states → getD lower s 0 ≡ stamp (insideStep (arenaOf g) (blockAt g) (huntingSide g)) (preyStates g) (g .states) s
+  pub pass-is : (s : ℕ) → s < g .states → getD lower s 0 ≡ lowerPass g s
 
 -- the last game of a run, and the rows that are not lent along; where no split was made its lower row is there already
 pub record Finishing (n m made tail : ℕ) (from to last before need prey block last' before' size have hit lower queue : List ℕ) : Type 0 where

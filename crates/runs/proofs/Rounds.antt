@@ -30,13 +30,13 @@ openStates g = undecided (arenaOf g) (blockAt g) (goalOf (g .objective)) (target
 -- ## What the word of a round says
 
 -- YES: the named start is a sure initial state; NO: no initial state is possible; OPEN: some initial state is open
-abbrev pub Says : Game → Word → Type 0
-Says g YES = (namedStart g < g .states) × T (initials g (namedStart g)) × T (sureStates g (namedStart g))
-Says g NO = (s : ℕ) → s < g .states → T (initials g s) → T (possibleStates g s) → ⊥
-Says g OPEN = (s : ℕ) × (s < g .states) × T (initials g s) × T (openStates g s)
+abbrev pub WordSays : Game → Word → Type 0
+WordSays g YES = (namedStart g < g .states) × T (initials g (namedStart g)) × T (sureStates g (namedStart g))
+WordSays g NO = (s : ℕ) → s < g .states → T (initials g s) → T (possibleStates g s) → ⊥
+WordSays g OPEN = (s : ℕ) × (s < g .states) × T (initials g s) × T (openStates g s)
 
 -- the word of a round says so
-pub word-says : (g : Game) → Says g (word g)
+pub word-says : (g : Game) → WordSays g (word g)
 unfolding word namedStart
 word-says g = go (some (g .states) maybe) refl (some (g .states) surely) refl
   where
@@ -46,7 +46,7 @@ word-says g = go (some (g .states) maybe) refl (some (g .states) surely) refl
     surely : Set
     surely s = initials g s && sureStates g s
 
-    go : (a : Bool) → some (g .states) maybe ≡ a → (b : Bool) → some (g .states) surely ≡ b → Says g (cond (not a) NO (cond b YES OPEN))
+    go : (a : Bool) → some (g .states) maybe ≡ a → (b : Bool) → some (g .states) surely ≡ b → WordSays g (cond (not a) NO (cond b YES OPEN))
     go false e b q = λ s l i p. rw e at (meets-in (g .states) (initials g) (possibleStates g) s l i p)
     go true e true q =
         let w = least-some (g .states) surely (rw q tt) in
@@ -63,7 +63,7 @@ word-says g = go (some (g .states) maybe) refl (some (g .states) surely) refl
         )
 
 -- the word of a round, once known, says so
-pub says : (g : Game) (w : Word) → word g ≡ w → Says g w
+pub says : (g : Game) (w : Word) → word g ≡ w → WordSays g w
 says g w e = rw e at (word-says g)
 
 -- ## An accepted game

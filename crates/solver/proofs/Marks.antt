@@ -24,7 +24,7 @@ use Rattle.growth.proofs.Stamp.{stamp-grow}
 use Rattle.runs.specs.Run.{sureStates, possibleStates, YES, NO, OPEN, word, namedStart}
 use Rattle.runs.specs.Hunting.{huntingSide, preyStates, lowerStates, upperStates}
 use Rattle.solver.specs.Rules.{mark}
-use Rattle.solver.specs.Work.{markNo, passOf, Worked, lowestStart, decisionBy}
+use Rattle.solver.specs.Work.{markNo, Worked, lowestStart, decisionBy}
 use Rattle.solver.specs.Solve.{decisionOf}
 use Rattle.solver.specs.declared.Decision.the-variants.{Yes, No, Open}
 
@@ -80,7 +80,7 @@ zero-out v b e = sym (not-not (eqb v 0)) ∙ ap not e
 module _ {g : Game} {low up : List ℕ} (w : Worked g low up) where
   -- the row of passes says what the hunter surely brings about
   in-lower : (s : ℕ) → s < g .states → isIn low s ≡ lowerStates g s
-  unfolding passOf lower arenaOf
+  unfolding lower arenaOf
   in-lower s l =
       ap (λ (v : ℕ). not (eqb v 0)) (w .lower-is s l)
       ∙ ap (λ (X : Set). X s) (stamp-grow (insideStep (arenaOf g) (blockAt g) (huntingSide g)) (preyStates g) (g .states))

@@ -27,7 +27,7 @@ use Rattle.runs.specs.Run.{Word, YES, NO, OPEN, word}
 use Rattle.arena.specs.Plan.{noMove}
 use Rattle.solver.specs.Rules.{successors, advice, planned}
 use Rattle.runs.specs.Hunting.{huntingSide, preyStates, lowerStates, upperStates}
-use Rattle.solver.specs.Work.{goodMove, lowestGood, Walk, passOf, Worked, Planning, chaseRank, chaseRule, fleeRule, winnerRule}
+use Rattle.solver.specs.Work.{goodMove, lowestGood, Walk, Worked, Planning, chaseRank, chaseRule, fleeRule, winnerRule}
 use Rattle.solver.specs.Solve.{decisionOf}
 use Rattle.solver.specs.declared.Decision.{Decision}
 use Rattle.solver.specs.declared.Decision.the-variants.{Yes, No, Open}
@@ -66,7 +66,7 @@ advice-as g i told X Y s agree none = go (mine (arenaOf g) i s) (told s) refl
 module _ {g : Game} {low up : List ℕ} (w : Worked g low up) where
   -- the pass that stands in the lower row
   lower-pass : (t : ℕ) → t < g .states → getD low t 0 ≡ cond (lowerStates g t) (suc (chaseRank g (goalOf (g .objective)) t)) 0
-  unfolding passOf lower arenaOf
+  unfolding lower arenaOf
   lower-pass t l = w .lower-is t l ∙ stamp-rank (insideStep (arenaOf g) (blockAt g) (huntingSide g)) (preyStates g) (g .states) (g .states) t (le-refl (g .states))
 
   -- a state of the lower set has a rank of at most the number of states, and no other has

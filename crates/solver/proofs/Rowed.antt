@@ -27,7 +27,7 @@ use Rattle.rounds.proofs.FirstMoves.{first-held}
 use Rattle.runs.specs.Run.{lowestFirst, word, run}
 use Rattle.rows.specs.RoundRows.{Present, Final}
 use Rattle.solver.specs.Solve.{decisionOf, said, Rows}
-use Rattle.solver.specs.Work.{Finished, passOf, Apart, HandedBack}
+use Rattle.solver.specs.Work.{Finished, Apart, HandedBack}
 use Rattle.solver.specs.declared.Verdict.{Verdict}
 
 -- prey of two sets that agree on s
@@ -97,7 +97,6 @@ module _ {g : Game} {side n m objective : ℕ} {turn starts from to prey block :
 pub finished : {g : Game} {side n m objective allowance : ℕ} {turn starts from to last before need first prey block : List ℕ} {splits : ℕ} {lower upper : List ℕ}
     → Final g side n m objective allowance turn starts from to last before need first prey block splits lower upper
     → Finished (run lowestFirst allowance g .last) n m objective turn starts from to block lower upper
-unfolding passOf
 finished {g} {n = n} {allowance = allowance} {lower = lower} {upper = upper} f = record {
   states-is = f .present .states-is;
   moves-is = f .present .moves-is;

@@ -19,8 +19,9 @@ use Rattle.game.specs.Ranged.{Ranged}
 use Rattle.game.specs.declared.Game.{Game}
 use Rattle.blocks.specs.Round.{insideStep}
 use Rattle.blocks.specs.Hunt.{hunter, prey, lower, upper}
-use Rattle.growth.specs.Stamp.{isIn, stamp}
+use Rattle.growth.specs.Stamp.{isIn}
 use Rattle.chains.specs.Lent.{Holds, Keys}
+use Rattle.rows.specs.RoundRows.{lowerPass}
 use Rattle.runs.specs.Hunting.{huntingSide, preyStates, upperStates}
 use Rattle.runs.specs.Run.{Run}
 use Rattle.solver.specs.Rules.{advice}
@@ -60,16 +61,12 @@ pub record Walk (n m : ℕ) (turn from to row : List ℕ) : Type 0 where
 
 -- ## Rounds at work
 
--- the pass in which each state entered what the hunting side surely brings about, 0 where it did not
-unfoldable pub passOf : Game → ℕ → ℕ
-passOf g s = stamp (insideStep (arenaOf g) (blockAt g) (huntingSide g)) (preyStates g) (g .states) s
-
 -- the rows of a round that is worked out: the passes of what is surely brought about, and what may be
 pub record Worked (g : Game) (low up : List ℕ) : Type 0 where
   pub ranged : Ranged g
   pub lower-long : g .states ≤ length low
   pub upper-long : g .states ≤ length up
-  pub lower-is : (s : ℕ) → s < g .states → getD low s 0 ≡ passOf g s
+  pub lower-is : (s : ℕ) → s < g .states → getD low s 0 ≡ lowerPass g s
   pub upper-in : (s : ℕ) → s < g .states → isIn up s ≡ upperStates g s
 
 -- the rows of plain numbers that are lent when a run is over, and what they say of its last game
