@@ -9,7 +9,7 @@
  * - no other thread uses what is lent while the call runs.
  *
  * Everything else is taken: any bytes, any lengths, any allowance. The calls keep nothing between them, allocate
- * nothing, and write only where it is said below. hvoyanur_solve takes some 210 KB of stack.
+ * nothing, and write only where it is said below. hvoyanur_solve takes less than 50 KB of stack.
  */
 #ifndef HVOYANUR_H
 #define HVOYANUR_H

@@ -1,6 +1,6 @@
 -- 01, 'Sheet of cases': the files of P1 to P10, record by record; and those that tell each choice that 01 makes.
 use Prim.Native.Nat.{ℕ}
-use mathlib.Core.List.{List, [], _++_}
+use mathlib.Core.List.{List, [], _∷_, _++_}
 use Rattle.encoding.specs.Encode.{headRecord, stateRecord, moveRecord}
 
 -- 01, 'Sheet of cases': M's states, and its moves but for 0→1
@@ -86,6 +86,23 @@ blockOfThree =
     ++ stateRecord 1 1 0 ++ stateRecord 2 0 1 ++ stateRecord 2 0 1 ++ stateRecord 2 0 1 ++ stateRecord 1 2 4 ++ stateRecord 1 0 5 ++ stateRecord 1 0 6
     ++ moveRecord 0 3 ++ moveRecord 1 4 ++ moveRecord 2 4 ++ moveRecord 3 5 ++ moveRecord 3 6 ++ moveRecord 4 4 ++ moveRecord 5 5 ++ moveRecord 6 6
 
+-- an open state of side 1, 1, with a sure successor, under YES: 0→0, 1→0, 2→3; side 1 everywhere; blocks {1, 2} and single ones; start 0; target
+-- 0, 1 and 2; stay
+unfoldable pub openUnderYesStay : List ℕ
+openUnderYesStay =
+    headRecord 4 4 2 ++ stateRecord 1 3 0 ++ stateRecord 1 2 1 ++ stateRecord 1 2 1 ++ stateRecord 1 0 3 ++ moveRecord 0 0 ++ moveRecord 1 0 ++ moveRecord 2 3 ++ moveRecord 3 3
+
+-- an open state of side 2, 2, with a never successor, under NO: 0→0, 1→3, 2→0; {1, 2} of side 2, the others side 1; start 0; target 3; reach
+unfoldable pub openUnderNoReach : List ℕ
+openUnderNoReach =
+    headRecord 4 4 1 ++ stateRecord 1 1 0 ++ stateRecord 2 0 1 ++ stateRecord 2 0 1 ++ stateRecord 1 2 3 ++ moveRecord 0 0 ++ moveRecord 1 3 ++ moveRecord 2 0 ++ moveRecord 3 3
+
+-- an open state of side 2, 1, with a successor that dropped out in the first pass, under NO: 0→0, 1→0, 2→3; {1, 2} of side 2, the others side 1;
+-- start 0; target 1, 2 and 3; stay
+unfoldable pub openUnderNoStay : List ℕ
+openUnderNoStay =
+    headRecord 4 4 2 ++ stateRecord 1 1 0 ++ stateRecord 2 2 1 ++ stateRecord 2 2 1 ++ stateRecord 1 2 3 ++ moveRecord 0 0 ++ moveRecord 1 0 ++ moveRecord 2 3 ++ moveRecord 3 3
+
 -- faults 10 and 11 together: a start and a target in one block
 unfoldable pub mixedBlock : List ℕ
 mixedBlock = headRecord 2 2 1 ++ stateRecord 1 1 0 ++ stateRecord 1 2 0 ++ moveRecord 0 0 ++ moveRecord 1 1
@@ -93,6 +110,34 @@ mixedBlock = headRecord 2 2 1 ++ stateRecord 1 1 0 ++ stateRecord 1 2 0 ++ moveR
 -- faults 8 and 9 together: no start, and state 1 has no move
 unfoldable pub noStart : List ℕ
 noStart = headRecord 2 1 1 ++ stateRecord 1 0 0 ++ stateRecord 1 2 1 ++ moveRecord 0 0
+
+-- faults 9 and 10 together: state 1 has no move, and a block has a start and another member
+unfoldable pub mixedAndStuck : List ℕ
+mixedAndStuck = headRecord 2 1 1 ++ stateRecord 1 1 0 ++ stateRecord 1 0 0 ++ moveRecord 0 0
+
+-- faults 7 and 8 together: a byte at the end, and no start
+unfoldable pub noStartAndMore : List ℕ
+noStartAndMore = headRecord 1 1 1 ++ stateRecord 1 0 0 ++ moveRecord 0 0 ++ 0 ∷ []
+
+-- faults 5, 6 and 7 together: a bad turn, a move to no state, and a byte at the end
+unfoldable pub badTurnAndMore : List ℕ
+badTurnAndMore = headRecord 1 1 1 ++ stateRecord 3 1 0 ++ moveRecord 0 1 ++ 0 ∷ []
+
+-- faults 5 and 3 in two records: state 0 has a bad turn, and a move stands where state 1 is due
+unfoldable pub twoBadRecords : List ℕ
+twoBadRecords = headRecord 2 1 1 ++ stateRecord 3 1 0 ++ moveRecord 0 0 ++ moveRecord 0 0
+
+-- faults 4 and 5 together: a third objective, and a bad turn
+unfoldable pub badHeadAndTurn : List ℕ
+badHeadAndTurn = headRecord 1 1 3 ++ stateRecord 3 1 0 ++ moveRecord 0 0
+
+-- faults 3 and 6 in one record: a state stands where a move is due, and its numbers are those of no states
+unfoldable pub stateForMove : List ℕ
+stateForMove = headRecord 1 1 1 ++ stateRecord 1 1 0 ++ stateRecord 1 1 5
+
+-- faults 3 and 2 in one record: a head of another length, and without its body
+unfoldable pub longHead : List ℕ
+longHead = 9 ∷ 0 ∷ 1 ∷ 0 ∷ []
 
 -- three states in a row: the plan needs states minus 1 moves
 unfoldable pub threeInARow : List ℕ

@@ -1,3 +1,4 @@
 pub mod Files
 pub mod Table
 pub mod Bound
+pub mod Exchanges

@@ -9,7 +9,7 @@ use Rattle.file.specs.Layout.{states}
 use Rattle.solver.specs.Solve.{Rows, Outcome, solved}
 use Rattle.solver.specs.declared.Verdict.{Verdict}
 use Rattle.solver.specs.declared.Verdict.the-variants.{Yes, No, Open, Refused}
-use Rattle.cases.specs.Files.{gameM, gameP3, gameP4, gameP5, gameP6, gameP7, gameP8, gameP9, emptyFile, headAlone, twoBorders, twoStarts, blockOfThree, mixedBlock, noStart, threeInARow}
+use Rattle.cases.specs.Files.{gameM, gameP3, gameP4, gameP5, gameP6, gameP7, gameP8, gameP9, emptyFile, headAlone, twoBorders, twoStarts, blockOfThree, openUnderYesStay, openUnderNoReach, openUnderNoStay, mixedBlock, noStart, mixedAndStuck, noStartAndMore, badTurnAndMore, twoBadRecords, badHeadAndTurn, stateForMove, longHead, threeInARow}
 
 -- the bytes of a file, an allowance, and how many places each lent row has
 pub record Case : Type 0 where
@@ -62,7 +62,17 @@ lines =
     ∷ line twoBorders 1 512 (Open 1) (1 ∷ 2 ∷ 0 ∷ 1 ∷ 1 ∷ 0 ∷ 2 ∷ []) (0 ∷ 1 ∷ 2 ∷ 3 ∷ 3 ∷ 5 ∷ 6 ∷ []) (blank 7 noMove)
     ∷ line twoStarts 511 512 (Yes (stateNo 0) 0) (2 ∷ 2 ∷ 2 ∷ 2 ∷ 1 ∷ 1 ∷ 0 ∷ []) (0 ∷ 1 ∷ 2 ∷ 3 ∷ 4 ∷ 4 ∷ 6 ∷ []) (2 ∷ 3 ∷ blank 5 noMove)
     ∷ line blockOfThree 511 512 (No 1) (0 ∷ 2 ∷ 2 ∷ 0 ∷ 2 ∷ 0 ∷ 0 ∷ []) (0 ∷ 1 ∷ 1 ∷ 3 ∷ 4 ∷ 5 ∷ 6 ∷ []) (noMove ∷ noMove ∷ noMove ∷ 5 ∷ blank 3 noMove)
+    ∷ line openUnderYesStay 511 512 (Yes (stateNo 0) 0) (2 ∷ 1 ∷ 1 ∷ 0 ∷ []) (0 ∷ 1 ∷ 1 ∷ 3 ∷ []) (0 ∷ blank 3 noMove)
+    ∷ line openUnderNoReach 511 512 (No 0) (0 ∷ 1 ∷ 1 ∷ 2 ∷ []) (0 ∷ 1 ∷ 1 ∷ 3 ∷ []) (blank 4 noMove)
+    ∷ line openUnderNoStay 511 512 (No 0) (0 ∷ 1 ∷ 1 ∷ 2 ∷ []) (0 ∷ 1 ∷ 1 ∷ 3 ∷ []) (blank 4 noMove)
     ∷ line mixedBlock 511 512 (Refused 10) (7 ∷ 7 ∷ []) (7 ∷ 7 ∷ []) (7 ∷ 7 ∷ [])
     ∷ line noStart 511 512 (Refused 8) (7 ∷ 7 ∷ []) (7 ∷ 7 ∷ []) (7 ∷ 7 ∷ [])
+    ∷ line mixedAndStuck 511 512 (Refused 9) (7 ∷ 7 ∷ []) (7 ∷ 7 ∷ []) (7 ∷ 7 ∷ [])
+    ∷ line noStartAndMore 511 512 (Refused 7) (7 ∷ []) (7 ∷ []) (7 ∷ [])
+    ∷ line badTurnAndMore 511 512 (Refused 5) (7 ∷ []) (7 ∷ []) (7 ∷ [])
+    ∷ line twoBadRecords 511 512 (Refused 5) (7 ∷ 7 ∷ []) (7 ∷ 7 ∷ []) (7 ∷ 7 ∷ [])
+    ∷ line badHeadAndTurn 511 512 (Refused 4) (7 ∷ []) (7 ∷ []) (7 ∷ [])
+    ∷ line stateForMove 511 512 (Refused 3) (7 ∷ []) (7 ∷ []) (7 ∷ [])
+    ∷ line longHead 511 512 (Refused 3) [] [] []
     ∷ line threeInARow 511 512 (Yes (stateNo 0) 0) (2 ∷ 2 ∷ 2 ∷ []) (0 ∷ 1 ∷ 2 ∷ []) (1 ∷ 2 ∷ noMove ∷ [])
     ∷ []
