@@ -9,7 +9,7 @@
  * - no other thread uses what is lent while the call runs.
  *
  * Everything else is taken: any bytes, any lengths, any allowance. The calls keep nothing between them, allocate
- * nothing, and write only where it is said below. hvoyanur_solve takes less than 50 KB of stack.
+ * nothing, and write only where it is said below. The stack that a call takes is measured in docs/BENCHMARKS.md, 'Stack'.
  */
 #ifndef HVOYANUR_H
 #define HVOYANUR_H
