@@ -1,11 +1,12 @@
-//! Holds what the library hands back for a byte string against the independent reading, winner and run.
+//! Holds what the library hands back for a byte string against the independent reading and winner, and against the run of
+//! the plain solver.
 
+use crate::answer::{plain_answer, Answer, NO, NONE, OPEN, YES};
 use crate::decoder;
 use crate::game::{count_blocks, Game, Objective, MAX_STATES};
 use crate::library::{exchange, solve, Solved};
 use crate::plays::Plan;
 use crate::random::Random;
-use crate::rounds::{self, Answer, NO, NONE, OPEN, YES};
 use crate::tally::Tally;
 use crate::winner::side_1_wins;
 
@@ -60,7 +61,7 @@ fn refused(file: &[u8], number: u16, allowance: u16, random: &mut Random) -> Che
     expect(out.kept_but(0), || format!("the exchange refuses with {number} and changes lent memory"))
 }
 
-/// An accepted file: the answer is the one of the independent run, and it is right by the game alone.
+/// An accepted file: the answer is right by the game alone, and it is the plain solver's in every place.
 fn accepted(file: &[u8], game: &Game, allowance: u16, random: &mut Random) -> Result<Answer, String> {
     let lengths = long_rows(random);
     let solved = solve(file, lengths, allowance, random);
@@ -78,8 +79,8 @@ fn accepted(file: &[u8], game: &Game, allowance: u16, random: &mut Random) -> Re
     check_verdict(game, &answer)?;
     check_blocks(game, &answer, allowance)?;
     check_plan(game, &answer)?;
-    let own = rounds::solve(game, allowance).ok_or("the independent run finds no border block")?;
-    expect(own == answer, || format!("the independent run gives {own:?}, the library {answer:?}"))?;
+    let plain = plain_answer(file, states, allowance)?;
+    expect(plain == answer, || format!("the plain solver gives {plain:?}, the library {answer:?}"))?;
     Ok(answer)
 }
 

@@ -8,6 +8,13 @@
 //!
 //! The first difference is printed with the words that replay it, and the status is 1.
 
+mod answer;
+/// The folder of the benchmark, of whose plain solver the tests use the run alone.
+#[allow(dead_code, unused_imports)]
+#[path = "../../bench"]
+mod bench {
+    pub mod plain;
+}
 mod big;
 mod checks;
 mod damage;
@@ -16,7 +23,6 @@ mod game;
 mod library;
 mod plays;
 mod random;
-mod rounds;
 mod shapes;
 mod tally;
 mod winner;

@@ -1,7 +1,7 @@
 //! What was met, counted, so that a reader of the last lines sees that the checks were not empty.
 
+use crate::answer::Answer;
 use crate::game::{Game, Objective};
-use crate::rounds::Answer;
 
 #[derive(Default)]
 pub struct Tally {
