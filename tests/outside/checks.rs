@@ -20,17 +20,19 @@ fn expect(holds: bool, what: impl FnOnce() -> String) -> Check {
 pub fn check(file: &[u8], allowance: u16, tally: &mut Tally) -> Check {
     let mut random = Random::of_bytes(file, allowance as u64);
     short_row(file, allowance, &mut random)?;
+    tally.count_refusal(1);
     match decoder::read(file) {
         Err(number) => {
-            tally.refusals[number as usize] += 1;
-            refused(file, number, allowance, &mut random)
+            refused(file, number, allowance, &mut random)?;
+            tally.count_refusal(number);
         }
         Ok(game) => {
             let answer = accepted(file, &game, allowance, &mut random)?;
+            traded(file, &game, &answer, allowance, &mut random)?;
             tally.count(&game, &answer);
-            traded(file, &game, &answer, allowance, &mut random)
         }
     }
+    Ok(())
 }
 
 /// A row with fewer than 512 places is refusal 1, whatever the file.
