@@ -462,7 +462,7 @@ def print_summary(sheet, printed):
 
 def compare_random(count):
     """Runs the built program over this many random games, two hundred at a time."""
-    program = os.path.join(FOLDER, '..', 'target', 'bin', 'solve_sheet')
+    program = [os.path.join(FOLDER, 'run_x86_64'), os.path.join(FOLDER, '..', 'target', 'bin', 'solve_sheet')]
     dice = Dice(count)
     for first in range(0, count, 200):
         cases = []
@@ -470,7 +470,7 @@ def compare_random(count):
             draft = random_game(dice, 2, 20, 1 + dice.below(3), 2 + dice.below(12))
             cases.append((f'random game {number}', draft.bytes(), (ENOUGH, dice.below(8))[dice.below(2)], ROWS))
         sheet, printed = texts(cases)
-        found = subprocess.run([program], input=sheet, capture_output=True, text=True, check=True).stdout
+        found = subprocess.run(program, input=sheet, capture_output=True, text=True, check=True).stdout
         for case_found, case_due in zip(found.split('rest untouched\n'), printed.split('rest untouched\n'), strict=True):
             if case_found != case_due:
                 sys.exit(f'the program printed\n{case_found}and the solver here\n{case_due}of a line of this sheet\n{sheet}')

@@ -1,11 +1,12 @@
-//! Holds what the library hands back for a byte string against the independent reading, winner and run.
+//! Holds what the library hands back for a byte string against the independent reading and winner, and against the run of
+//! the plain solver.
 
+use crate::answer::{plain_answer, Answer, NO, NONE, OPEN, YES};
 use crate::decoder;
 use crate::game::{count_blocks, Game, Objective, MAX_STATES};
 use crate::library::{exchange, solve, Solved};
 use crate::plays::Plan;
 use crate::random::Random;
-use crate::rounds::{self, Answer, NO, NONE, OPEN, YES};
 use crate::tally::Tally;
 use crate::winner::side_1_wins;
 
@@ -19,17 +20,19 @@ fn expect(holds: bool, what: impl FnOnce() -> String) -> Check {
 pub fn check(file: &[u8], allowance: u16, tally: &mut Tally) -> Check {
     let mut random = Random::of_bytes(file, allowance as u64);
     short_row(file, allowance, &mut random)?;
+    tally.count_refusal(1);
     match decoder::read(file) {
         Err(number) => {
-            tally.refusals[number as usize] += 1;
-            refused(file, number, allowance, &mut random)
+            refused(file, number, allowance, &mut random)?;
+            tally.count_refusal(number);
         }
         Ok(game) => {
             let answer = accepted(file, &game, allowance, &mut random)?;
+            traded(file, &game, &answer, allowance, &mut random)?;
             tally.count(&game, &answer);
-            traded(file, &game, &answer, allowance, &mut random)
         }
     }
+    Ok(())
 }
 
 /// A row with fewer than 512 places is refusal 1, whatever the file.
@@ -60,27 +63,32 @@ fn refused(file: &[u8], number: u16, allowance: u16, random: &mut Random) -> Che
     expect(out.kept_but(0), || format!("the exchange refuses with {number} and changes lent memory"))
 }
 
-/// An accepted file: the answer is the one of the independent run, and it is right by the game alone.
+/// An accepted file: the answer is right by the game alone, and it is the plain solver's in every place.
 fn accepted(file: &[u8], game: &Game, allowance: u16, random: &mut Random) -> Result<Answer, String> {
+    let answer = handed_back(file, game.states(), allowance, random)?;
+    check_verdict(game, &answer)?;
+    check_blocks(game, &answer, allowance)?;
+    check_plan(game, &answer)?;
+    let plain = plain_answer(file, game.states(), allowance)?;
+    expect(plain == answer, || format!("the plain solver gives {plain:?}, the library {answer:?}"))?;
+    check_round_before(file, &answer, random)?;
+    Ok(answer)
+}
+
+/// What the library hands back for the file of a game with so many states.
+fn handed_back(file: &[u8], states: usize, allowance: u16, random: &mut Random) -> Result<Answer, String> {
     let lengths = long_rows(random);
     let solved = solve(file, lengths, allowance, random);
-    let states = game.states();
     expect(solved.kept_but(states), || "solving changed memory beyond the states".to_string())?;
-    let answer = Answer {
+    expect((1..=3).contains(&solved.word), || format!("the word is {} for an accepted file", solved.word))?;
+    Ok(Answer {
         word: solved.word as u16,
         named: solved.named,
         splits: solved.splits,
         marks: solved.marks.row()[..states].to_vec(),
         blocks: solved.blocks.row()[..states].to_vec(),
         moves: solved.moves.row()[..states].to_vec(),
-    };
-    expect((1..=3).contains(&solved.word), || format!("the word is {} for an accepted file", solved.word))?;
-    check_verdict(game, &answer)?;
-    check_blocks(game, &answer, allowance)?;
-    check_plan(game, &answer)?;
-    let own = rounds::solve(game, allowance).ok_or("the independent run finds no border block")?;
-    expect(own == answer, || format!("the independent run gives {own:?}, the library {answer:?}"))?;
-    Ok(answer)
+    })
 }
 
 /// Sure states win, never states lose, and the verdict is that of the game without blocks.
@@ -124,6 +132,21 @@ fn check_blocks(game: &Game, answer: &Answer, allowance: u16) -> Check {
     expect(splits <= allowance.min(spare), || format!("{splits} splits with allowance {allowance}"))?;
     let used_up = splits == allowance && allowance < spare;
     expect(answer.word != OPEN || used_up, || format!("OPEN after {splits} splits of {allowance}"))
+}
+
+/// With one split less than were made the answer is OPEN, since no round before the last was decided, and a single block
+/// has not been split yet.
+fn check_round_before(file: &[u8], answer: &Answer, random: &mut Random) -> Check {
+    let allowance = match answer.splits.checked_sub(1) {
+        Some(allowance) => allowance,
+        None => return Ok(()),
+    };
+    let before = handed_back(file, answer.marks.len(), allowance, random)?;
+    let (word, splits) = (before.word, before.splits);
+    expect(word == OPEN && splits == allowance, || format!("with allowance {allowance}: word {word}, {splits} splits"))?;
+    let mut renamed: Vec<_> = before.blocks.iter().zip(&answer.blocks).filter(|(old, new)| old != new).collect();
+    renamed.dedup();
+    expect(renamed.len() == 1, || format!("the last split renames blocks so: {renamed:?}"))
 }
 
 /// The winner's plan, followed against every play of the other side.

@@ -1,7 +1,7 @@
 //! Follows a plan against every play of the other side.
 
+use crate::answer::NONE;
 use crate::game::Game;
-use crate::rounds::NONE;
 
 /// A row of moves that one side follows at its own states.
 pub struct Plan<'a> {
