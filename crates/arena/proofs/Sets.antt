@@ -36,6 +36,7 @@ some_intro (suc n) X s h x = elim (lt_suc_cases s n h) [
 pub some_elim : (n : ℕ) (X : Set) → T (some n X) → (s : ℕ) × (s < n) × T (X s)
 unfolding some
 some_elim (suc n) X h = or_elim (some n X) (X n) (λ r. let t = some_elim n X r in (t.0, omega arith, t.2)) (λ x. (n, lt-suc_self n, x)) h
+some_elim zero X h = elim h [ ]
 
 -- if each number below n lies in X, every one does
 pub every_intro : (n : ℕ) (X : Set) → ((s : ℕ) → s < n → T (X s)) → T (every n X)
@@ -148,6 +149,7 @@ count_grows (suc n) X Y h =
 pub count_pos : (n : ℕ) (X : Set) → T (some n X) → 1 ≤ count n X
 unfolding some count
 count_pos (suc n) X h = or_elim (some n X) (X n) (λ r. omega (arith, count_pos n X r)) (λ x. omega (arith, bit_mono true (X n) (λ _. x))) h
+count_pos zero X h = elim h [ ]
 
 -- ## The lowest member
 

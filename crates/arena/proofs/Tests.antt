@@ -26,6 +26,7 @@ T_ext false false f g = refl
 -- a test that holds is true
 pub is_true : (b : Bool) → T b → b ≡ true
 is_true true h = refl
+is_true false h = elim h [ ]
 
 -- a test that fails is false
 pub is_false : (b : Bool) → (T b → ⊥) → b ≡ false
@@ -43,18 +44,22 @@ fails b e h = rw e at h
 -- both hold, so their conjunction does
 pub and_intro : (a b : Bool) → T a → T b → T (a && b)
 and_intro true b p q = q
+and_intro false b p q = elim p [ ]
 
 -- a conjunction holds, so its first part does
 pub and_l : (a b : Bool) → T (a && b) → T a
 and_l true b p = tt
+and_l false b p = elim p [ ]
 
 -- a conjunction holds, so its second part does
 pub and_r : (a b : Bool) → T (a && b) → T b
 and_r true b p = p
+and_r false b p = elim p [ ]
 
 -- the first part of a disjunction holds, so the whole does
 pub or_l : (a b : Bool) → T a → T (a || b)
 or_l true b p = tt
+or_l false b p = elim p [ ]
 
 -- the second part of a disjunction holds, so the whole does
 pub or_r : (a b : Bool) → T b → T (a || b)
@@ -78,6 +83,7 @@ imp_intro false b f = tt
 -- an implication and its premise give its conclusion
 pub imp_elim : (a b : Bool) → T (imp a b) → T a → T b
 imp_elim true b p q = p
+imp_elim false b p q = elim q [ ]
 
 -- an implication read backwards, between the negations
 pub contra : (a b : Bool) → (T a → T b) → T (not b) → T (not a)
@@ -96,6 +102,8 @@ beq_refl false = tt
 pub beq→eq : (a b : Bool) → T (beq a b) → a ≡ b
 beq→eq true true h = refl
 beq→eq false false h = refl
+beq→eq false true h = elim h [ ]
+beq→eq true false h = elim h [ ]
 
 -- tests that are not equal are opposite
 pub opposite : (a b : Bool) → (a ≡ b → ⊥) → a ≡ not b
@@ -129,6 +137,7 @@ cond_mono false x y z w f g = g
 -- where the test holds, the first is chosen
 pub cond_yes : {A : Type 0} (b : Bool) (x y : A) → T b → cond b x y ≡ x
 cond_yes true x y h = refl
+cond_yes {A = A} false x y h = elim h [ ]
 
 -- where the test fails, the second is chosen
 pub cond_no : {A : Type 0} (b : Bool) (x y : A) → (T b → ⊥) → cond b x y ≡ y

@@ -1,1 +1,2 @@
 // Blocks and one round over them: definitions in specs/, theorems in proofs/, no code.
+#![tactic(auto)]

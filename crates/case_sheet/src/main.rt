@@ -1,6 +1,8 @@
 // Runs the decoder and the exchange over a sheet of cases, then over long files that it builds itself, and prints a line for each.
 // The sheet is read from standard input. What has to be printed is worked out by tools/case_sheet.py, which has a decoder and an
 // exchange of its own.
+#![tactic(auto)]
+
 mod build;
 mod print;
 mod sheet;

@@ -107,4 +107,5 @@ module _ (key : List ℕ) where
     where
       and_yes : (x y : Bool) → lib.Dec.T y → (x && y) ≡ x
       and_yes true true h = refl
+      and_yes true false h = elim h [ ]
       and_yes false y h = refl

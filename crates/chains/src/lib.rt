@@ -1,4 +1,6 @@
 // Rows of plain numbers, and chains of the places of a row that hold the same number.
+#![tactic(auto)]
+
 ghost use Rattle.std.specs.Prelude.{◌≡◌, cond, ℕ, ◌≤◌, ◌<◌, length, get_or, eqb};
 ghost use Rattle.game.specs.Limits.{max_states, max_moves};
 ghost use Rattle.chains.specs.Lent.{Holds, Keys, many_of, last_below, Linked, rechained, Gathered};

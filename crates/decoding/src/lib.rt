@@ -1,4 +1,6 @@
 // Decoding: from any byte string to an accepted game or a refusal.
+#![tactic(auto)]
+
 ghost use Rattle.std.specs.Prelude.{◌≡◌};
 ghost use Rattle.file.specs.Layout.{states, moves};
 ghost use Rattle.file.specs.Sound.{Sound};

@@ -1,5 +1,7 @@
 // What is demanded, held by the calls: each function calls the product and has what is promised of it as its own contract, so
 // that a contract weakened anywhere below breaks the check of this crate.
+#![tactic(auto)]
+
 ghost use Rattle.std.specs.Prelude.{◌≡◌, ◌≤◌, length, take};
 ghost use Rattle.solver.specs.Solve.{solved};
 ghost use Rattle.demands.specs.Calls.{SolvePromise, DecodePromise, ExchangePromise, ExchangedSolvePromise};

@@ -1,4 +1,6 @@
 // The exchange: the file of the game with the sides exchanged.
+#![tactic(auto)]
+
 ghost use Rattle.std.specs.Prelude.{◌≡◌, ◌≤◌};
 ghost use Rattle.game.specs.Limits.{max_states};
 ghost use Rattle.exchange.specs.Exchange.{other_turn, other_objective, other_marks, exchanged};

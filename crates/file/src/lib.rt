@@ -1,4 +1,6 @@
 // The game file: every refusal of 01, in its order.
+#![tactic(auto)]
+
 ghost use Rattle.std.specs.Prelude.{◌≡◌, ◌+◌, ◌*◌, ◌≤◌, ◌<◌, length};
 ghost use Rattle.arena.specs.Sets.{some, every, bit};
 ghost use Rattle.game.specs.Limits.{max_states, max_moves};

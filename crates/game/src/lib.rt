@@ -1,13 +1,15 @@
 // The game of 01: its numbers, its limits, and its rows.
+#![tactic(auto)]
+
 ghost use Rattle.std.specs.Prelude.{◌≡◌};
 ghost use Rattle.game.specs.Game.{marked, empty_game};
 
 // The number of one state.
-#[derive(Drop)]
+#[derive(Clone, Copy)]
 pub struct StateNo(pub u16);
 
 // The number of a block, which is its lowest member's.
-#[derive(Drop)]
+#[derive(Clone, Copy)]
 pub struct BlockNo(pub u16);
 
 // A game of at most `MAX_STATES` states and `MAX_MOVES` moves. The first places of each row, one per state or per

@@ -1,6 +1,8 @@
 // Growth of a set of states by a queue: each state that enters is handled once, and handling it looks once at each move
 // into it. A set grows by blocks, wholly inside the hunting side's forced-step set of it or meeting that set. All rows are
 // lent as plain numbers: state numbers by move, and block numbers by state.
+#![tactic(auto)]
+
 ghost use Rattle.std.specs.Prelude.{◌≡◌, true, cond, ◌&&◌, ℕ, ◌+◌, ◌≤◌, ◌<◌, length, get_or, eqb, leb};
 ghost use Rattle.game.specs.Limits.{max_states};
 ghost use Rattle.game.specs.declared.Game.{Game};

@@ -1,4 +1,6 @@
 // The library for C, and for Rust that links it: each answer comes as one number. `include/hvoyanur.h` declares the calls.
+#![tactic(auto)]
+
 ghost use Rattle.std.specs.Prelude.{◌≡◌};
 ghost use Rattle.solver.specs.Solve.{solved};
 ghost use Rattle.exchange.specs.Exchange.{exchanged};

@@ -1,4 +1,6 @@
 // How a run comes out: its splits, the blocks of its last round, and the rows of that round.
+#![tactic(auto)]
+
 ghost use Rattle.std.specs.Prelude.{◌≤◌, length};
 ghost use Rattle.game.specs.declared.Game.{Game};
 ghost use Rattle.runs.specs.Hunting.{upper_states};

@@ -1,4 +1,6 @@
 // The rounds of a run, played until one is settled or the allowance of splits is used up.
+#![tactic(auto)]
+
 ghost use Rattle.std.specs.Prelude.{◌≡◌, ◌||◌, ◌≤◌, length, eqb};
 ghost use Rattle.game.specs.Limits.{max_states};
 ghost use Rattle.game.specs.Game.{block_at};

@@ -1,6 +1,8 @@
 // Makes many random games, solves each with the solver and by the published definition without blocks, and checks what the solver
 // says against that. It prints what was counted: the kinds of games, the verdicts, and for each check how often it failed, which
 // should be never.
+#![tactic(auto)]
+
 mod counts;
 mod examine;
 mod follow;

@@ -1,4 +1,6 @@
 // What is printed of a game file: the refusal, or the verdict and each state with its mark, its block and its move.
+#![tactic(auto)]
+
 ghost use Rattle.std.specs.Prelude.{◌≤◌, ◌<◌};
 ghost use Rattle.game.specs.Limits.{max_states};
 

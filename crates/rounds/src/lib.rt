@@ -1,6 +1,8 @@
 // One round of 01 over the present blocks of a game: the prey, the border block and its split. All is seen from the side
 // that hunts, so that reach and stay go the same way. A row of passes holds 0 for a state outside the set, and otherwise
 // the pass in which it entered; pass 1 is the prey itself. What loops go through at each round is lent as plain numbers.
+#![tactic(auto)]
+
 ghost use Rattle.std.specs.Prelude.{◌≡◌, not, ◌&&◌, cond, suc, ◌≤◌, ◌<◌, length, get_or, T, eqb};
 ghost use Rattle.arena.specs.Sets.{bit, least};
 ghost use Rattle.game.specs.Limits.{max_states, max_moves};

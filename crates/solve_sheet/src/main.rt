@@ -1,6 +1,8 @@
 // Runs the solver over a sheet of cases, and prints for each its name, what the printing program would print of it, and whether the
 // rest of the lent rows is untouched. The sheet is read from standard input. What has to be printed is worked out by
 // tools/solve_sheet.py, which has a solver of its own.
+#![tactic(auto)]
+
 mod print;
 mod sheet;
 mod show;

@@ -1,4 +1,6 @@
 // The solver: a run over the game of a file, and what is handed back when it is over.
+#![tactic(auto)]
+
 ghost use Rattle.std.specs.Prelude.{◌≡◌, ◌≤◌, length};
 ghost use Rattle.game.specs.Limits.{max_states};
 ghost use Rattle.game.specs.declared.Game.{Game};

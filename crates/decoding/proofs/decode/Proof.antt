@@ -6,9 +6,9 @@ use Rattle.decoding.specs.Decode.{decoded}
 use Rattle.decoding.proofs.decode.Statement.{statement}
 use Rattle.decoding.proofs.decode.Tie as tie
 
-pub decode-spec : {M : Type 1} → statement M
+pub decode_spec : {M : Type 1} → statement M
 unfolding decoded
-decode-spec =
+decode_spec =
     tie.close
     (tie.spec
     (λ c κs. search rules)

@@ -24,9 +24,9 @@ loop-holds : tie.Need-loop-init invariant-loop decreases-loop
 unfolding blank
 loop-holds c = (search walk, fill_none _ (blank max_moves (state_no 0)), fill_none _ (blank max_moves (state_no 0)))
 
-pub move-rows-spec : {M : Type 1} → statement M
+pub move_rows_spec : {M : Type 1} → statement M
 unfolding from_row to_row
-move-rows-spec =
+move_rows_spec =
     tie.close
     (tie.spec invariant-loop decreases-loop
     loop-holds

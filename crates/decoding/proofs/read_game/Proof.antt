@@ -4,9 +4,9 @@ use Rattle.decoding.specs.Decode.{game_of}
 use Rattle.decoding.proofs.read_game.Statement.{statement}
 use Rattle.decoding.proofs.read_game.Tie as tie
 
-pub read-game-spec : {M : Type 1} → statement M
+pub read_game_spec : {M : Type 1} → statement M
 unfolding game_of
-read-game-spec =
+read_game_spec =
     tie.close
     (tie.spec
     (λ c κs. search rules)

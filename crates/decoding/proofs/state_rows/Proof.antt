@@ -26,9 +26,9 @@ loop-holds : tie.Need-loop-init invariant-loop decreases-loop
 unfolding blank
 loop-holds c = (search walk, fill_none _ (zeros max_states), fill_none _ (zeros max_states), fill_none _ (blank max_states (block_no 0)))
 
-pub state-rows-spec : {M : Type 1} → statement M
+pub state_rows_spec : {M : Type 1} → statement M
 unfolding turn_row marks_row block_row
-state-rows-spec =
+state_rows_spec =
     tie.close
     (tie.spec invariant-loop decreases-loop
     loop-holds

@@ -4,8 +4,8 @@ use Rattle.demands.proofs.Calls.{decode_promise}
 use Rattle.demands.proofs.decode_as_promised.Statement.{statement}
 use Rattle.demands.proofs.decode_as_promised.Tie as tie
 
-pub decode-as-promised-spec : {M : Type 1} → statement M
-decode-as-promised-spec =
+pub decode_as_promised_spec : {M : Type 1} → statement M
+decode_as_promised_spec =
     tie.close
     (tie.spec
     (λ c κs. search rules)

@@ -4,8 +4,8 @@ use Rattle.demands.proofs.Calls.{exchange_promise}
 use Rattle.demands.proofs.exchange_as_promised.Statement.{statement}
 use Rattle.demands.proofs.exchange_as_promised.Tie as tie
 
-pub exchange-as-promised-spec : {M : Type 1} → statement M
-exchange-as-promised-spec =
+pub exchange_as_promised_spec : {M : Type 1} → statement M
+exchange_as_promised_spec =
     tie.close
     (tie.spec
     (λ c κs. search rules)

@@ -4,8 +4,8 @@ use Rattle.demands.proofs.Calls.{solve_promise}
 use Rattle.demands.proofs.solve_as_promised.Statement.{statement}
 use Rattle.demands.proofs.solve_as_promised.Tie as tie
 
-pub solve-as-promised-spec : {M : Type 1} → statement M
-solve-as-promised-spec =
+pub solve_as_promised_spec : {M : Type 1} → statement M
+solve_as_promised_spec =
     tie.close
     (tie.spec
     (λ c κs. search rules)

@@ -7,8 +7,8 @@ use Rattle.demands.proofs.Calls.{exchanged_solve_promise}
 use Rattle.demands.proofs.solve_exchanged_as_promised.Statement.{statement}
 use Rattle.demands.proofs.solve_exchanged_as_promised.Tie as tie
 
-pub solve-exchanged-as-promised-spec : {M : Type 1} → statement M
-solve-exchanged-as-promised-spec =
+pub solve_exchanged_as_promised_spec : {M : Type 1} → statement M
+solve_exchanged_as_promised_spec =
     tie.close
     (tie.spec
     (λ c κs. search rules)

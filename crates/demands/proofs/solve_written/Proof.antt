@@ -5,8 +5,8 @@ use borrow.Author.Rules.{rules}
 use Rattle.demands.proofs.solve_written.Statement.{statement}
 use Rattle.demands.proofs.solve_written.Tie as tie
 
-pub solve-written-spec : {M : Type 1} → statement M
-solve-written-spec =
+pub solve_written_spec : {M : Type 1} → statement M
+solve_written_spec =
     tie.close
     (tie.spec
     (λ c. sym (length-take-le _ _ c.before.before.before.before.before.requires))

@@ -18,8 +18,8 @@ invariant-loop file out₀ e n i₀ out i =
 abbrev decreases-loop : tie.decreases-loop
 decreases-loop file out₀ e n i₀ out i = length file - i
 
-pub exchange-spec : {M : Type 1} → statement M
-exchange-spec =
+pub exchange_spec : {M : Type 1} → statement M
+exchange_spec =
     tie.close
     (tie.spec invariant-loop decreases-loop
     (λ c κs. search walk)

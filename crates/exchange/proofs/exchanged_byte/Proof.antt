@@ -4,9 +4,9 @@ use Rattle.arena.proofs.Choices.{choices}
 use Rattle.exchange.proofs.exchanged_byte.Statement.{statement}
 use Rattle.exchange.proofs.exchanged_byte.Tie as tie
 
-pub exchanged-byte-spec : {M : Type 1} → statement M
+pub exchanged_byte_spec : {M : Type 1} → statement M
 unfolding exchanged_byte
-exchanged-byte-spec =
+exchanged_byte_spec =
     tie.close
     (tie.spec
     (λ c κs. search choices)

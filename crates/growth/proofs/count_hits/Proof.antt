@@ -18,8 +18,8 @@ invariant-loop n block need have hit₀ s₀ hit s =
 abbrev decreases-loop : tie.decreases-loop
 decreases-loop n block need have hit₀ s₀ hit s = n - s
 
-pub count-hits-spec : {M : Type 1} → statement M
-count-hits-spec =
+pub count_hits_spec : {M : Type 1} → statement M
+count_hits_spec =
     tie.close
     (tie.spec invariant-loop decreases-loop
     (λ c. (search places, hits-none _ _ _ c.requires.4, refl))

@@ -13,8 +13,8 @@ use Rattle.growth.proofs.grow_on.Tie as tie
 one-two : 1 ≤ 2
 one-two = omega arith
 
-pub grow-on-spec : {M : Type 1} → statement M
-grow-on-spec =
+pub grow_on_spec : {M : Type 1} → statement M
+grow_on_spec =
     tie.close
     (tie.spec
     (λ c κs. (let start = c.before.before.before.before.before.before.before.before.before.before.before.before.before.before.before in let s = sound start.requires.0.2 start.requires.1.1 true in (s.few-states, start.requires.1.2, one-two, start.requires.1.1.chains, start.requires.1.3.counted.row-long, start.requires.1.3.counted.listed)))

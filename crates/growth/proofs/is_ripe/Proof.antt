@@ -4,8 +4,8 @@ use Rattle.growth.proofs.Ripening.{ripe-some}
 use Rattle.growth.proofs.is_ripe.Statement.{statement}
 use Rattle.growth.proofs.is_ripe.Tie as tie
 
-pub is-ripe-spec : {M : Type 1} → statement M
-is-ripe-spec =
+pub is_ripe_spec : {M : Type 1} → statement M
+is_ripe_spec =
     tie.close
     (tie.spec
     (λ c. rw c.if1.true refl)

@@ -14,8 +14,8 @@ invariant-loop n b number block last before tail row₀ queue₀ end₀ at₀ ro
 abbrev decreases-loop : tie.decreases-loop
 decreases-loop n b number block last before tail row₀ queue₀ end₀ at₀ row queue end at = at
 
-pub join-block-spec : {M : Type 1} → statement M
-join-block-spec =
+pub join_block_spec : {M : Type 1} → statement M
+join_block_spec =
     tie.close
     (tie.spec invariant-loop decreases-loop
     (λ c. let k = chain_start c.requires.0 c.requires.3 c.requires.1 in omega arith)

@@ -17,8 +17,8 @@ invariant-loop n whole block last before size hit tail row₀ queue₀ end₀ b�
 abbrev decreases-loop : tie.decreases-loop
 decreases-loop n whole block last before size hit tail row₀ queue₀ end₀ b₀ row queue end b = n - b
 
-pub join-ripe-spec : {M : Type 1} → statement M
-join-ripe-spec =
+pub join_ripe_spec : {M : Type 1} → statement M
+join_ripe_spec =
     tie.close
     (tie.spec invariant-loop decreases-loop
     (λ c. (omega arith, joined-none c.before.before.before.before.before.before.before.requires.4 c.before.before.before.before.before.before.before.requires.5 (λ s _. below_none (ripe_by c.before.before.before.before.before.before.before.args.whole c.before.before.before.before.before.before.before.args.size.now c.before.before.before.before.before.before.before.args.hit.now) c.before.before.before.before.before.before.before.args.block.now s), refl, refl))

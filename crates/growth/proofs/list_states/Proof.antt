@@ -18,8 +18,8 @@ invariant-loop n row queue₀ tail₀ s₀ queue tail s = (s ≤ n) × (tail ≤
 abbrev decreases-loop : tie.decreases-loop
 decreases-loop n row queue₀ tail₀ s₀ queue tail s = n - s
 
-pub list-states-spec : {M : Type 1} → statement M
-list-states-spec =
+pub list_states_spec : {M : Type 1} → statement M
+list_states_spec =
     tie.close
     (tie.spec invariant-loop decreases-loop
     (λ c. (search places, search places, listed-none _ _, refl))

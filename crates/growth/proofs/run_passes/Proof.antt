@@ -26,8 +26,8 @@ invariant-loop n m whole first entered filled from to last before need block las
 abbrev decreases-loop : tie.decreases-loop
 decreases-loop n m whole first entered filled from to last before need block last-member member-before size have₀ hit₀ row₀ queue₀ q₀ end₀ tail₀ pass₀ have hit row queue q end tail pass = n - end
 
-pub run-passes-spec : {M : Type 1} → statement M
-run-passes-spec =
+pub run_passes_spec : {M : Type 1} → statement M
+run_passes_spec =
     tie.close
     (tie.spec invariant-loop2 decreases-loop2 invariant-loop decreases-loop
     (λ c. (c.before.before.before.before.before.before.before.before.before.before.before.before.before.requires.3, (λ f was. was), refl, refl, refl, refl))

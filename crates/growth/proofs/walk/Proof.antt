@@ -18,8 +18,8 @@ invariant-loop n m whole q end number from to last before need block last-member
 abbrev decreases-loop : tie.decreases-loop
 decreases-loop n m whole q end number from to last before need block last-member member-before size have₀ hit₀ row₀ queue₀ c tail₀ at₀ have hit row queue tail at = at
 
-pub walk-spec : {M : Type 1} → statement M
-walk-spec =
+pub walk_spec : {M : Type 1} → statement M
+walk_spec =
     tie.close
     (tie.spec invariant-loop decreases-loop
     (λ c. (beginning c.before.before.before.before.before.before.before.before.before.before.before.before.before.requires.0 c.before.before.before.before.before.before.before.before.before.before.before.before.before.requires.1 c.before.before.before.before.before.before.before.before.before.before.before.before.before.args.q c.before.before.before.before.before.before.before.before.before.before.before.before.before.requires.3 c.before.before.before.before.before.before.before.before.before.before.before.before.before.requires.5).place_offset)

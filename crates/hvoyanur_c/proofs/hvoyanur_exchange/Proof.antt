@@ -8,8 +8,8 @@ use Rattle.hvoyanur_c.proofs.Short.{written_short}
 use Rattle.hvoyanur_c.proofs.hvoyanur_exchange.Statement.{statement}
 use Rattle.hvoyanur_c.proofs.hvoyanur_exchange.Tie as tie
 
-pub hvoyanur-exchange-spec : {M : Type 1} → statement M
-hvoyanur-exchange-spec =
+pub hvoyanur_exchange_spec : {M : Type 1} → statement M
+hvoyanur_exchange_spec =
     tie.close
     (tie.spec
     (λ c κs. search rules)

@@ -5,8 +5,8 @@ use Rattle.hvoyanur_c.specs.Pack.{packed_outcome}
 use Rattle.hvoyanur_c.proofs.hvoyanur_solve.Statement.{statement}
 use Rattle.hvoyanur_c.proofs.hvoyanur_solve.Tie as tie
 
-pub hvoyanur-solve-spec : {M : Type 1} → statement M
-hvoyanur-solve-spec =
+pub hvoyanur_solve_spec : {M : Type 1} → statement M
+hvoyanur_solve_spec =
     tie.close
     (tie.spec
     (λ c κs. search rules)

@@ -5,8 +5,8 @@ use Rattle.hvoyanur_c.specs.Pack.{packed}
 use Rattle.hvoyanur_c.proofs.pack.Statement.{statement}
 use Rattle.hvoyanur_c.proofs.pack.Tie as tie
 
-pub pack-spec : {M : Type 1} → statement M
-pack-spec =
+pub pack_spec : {M : Type 1} → statement M
+pack_spec =
     tie.close
     (tie.spec
     (λ c. search rules)

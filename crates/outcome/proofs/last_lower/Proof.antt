@@ -5,8 +5,8 @@ use Rattle.outcome.proofs.Course.{lowered_anew, numbered_anew}
 use Rattle.outcome.proofs.last_lower.Statement.{statement}
 use Rattle.outcome.proofs.last_lower.Tie as tie
 
-pub last-lower-spec : {M : Type 1} → statement M
-last-lower-spec =
+pub last_lower_spec : {M : Type 1} → statement M
+last_lower_spec =
     tie.close
     (tie.spec
     (λ c. λ f. f.kept c.if1.true)

@@ -4,8 +4,8 @@ use Rattle.outcome.proofs.Course.{underway-last}
 use Rattle.outcome.proofs.last_rows.Statement.{statement}
 use Rattle.outcome.proofs.last_rows.Tie as tie
 
-pub last-rows-spec : {M : Type 1} → statement M
-last-rows-spec =
+pub last_rows_spec : {M : Type 1} → statement M
+last_rows_spec =
     tie.close
     (tie.spec
     (λ c κs. (c.before.before.before.before.before.before.before.before.before.before.before.before.before.before.before.before.before.before.before.before.before.requires.0, c.before.before.before.before.before.before.before.before.before.before.before.before.before.before.before.before.before.before.before.before.before.requires.1))

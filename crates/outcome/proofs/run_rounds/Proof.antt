@@ -13,8 +13,8 @@ use Rattle.outcome.proofs.run_rounds.Tie as tie
 within-row : {n k : ℕ} → n ≤ max_states → k ≡ max_states → n ≤ k
 within-row few e = omega arith
 
-pub run-rounds-spec : {M : Type 1} → statement M
-run-rounds-spec =
+pub run_rounds_spec : {M : Type 1} → statement M
+run_rounds_spec =
     tie.close
     (tie.spec
     (λ c. refl)

@@ -4,8 +4,8 @@ use borrow.Author.Rules.{rules}
 use Rattle.play.proofs.is_over.Statement.{statement}
 use Rattle.play.proofs.is_over.Tie as tie
 
-pub is-over-spec : {M : Type 1} → statement M
-is-over-spec =
+pub is_over_spec : {M : Type 1} → statement M
+is_over_spec =
     tie.close
     (tie.spec
     (λ c. search rules)

@@ -7,8 +7,8 @@ use Rattle.play.proofs.Ending.{retracing}
 use Rattle.play.proofs.last_round.Statement.{statement}
 use Rattle.play.proofs.last_round.Tie as tie
 
-pub last-round-spec : {M : Type 1} → statement M
-last-round-spec =
+pub last_round_spec : {M : Type 1} → statement M
+last_round_spec =
     tie.close
     (tie.spec
     (λ c κs. retracing c.before.before.before.before.before.before.before.before.before.before.before.before.requires c.before.if1.true)

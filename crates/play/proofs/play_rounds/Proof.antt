@@ -27,8 +27,8 @@ invariant-loop n m objective side allowance tail turn starts from to last before
 abbrev decreases-loop : tie.decreases-loop
 decreases-loop n m objective side allowance tail turn starts from to last before need first prey block₀ last-member₀ member-before₀ size₀ have₀ hit₀ lower₀ queue₀ parents₀ names₀ made₀ due₀ clear₀ end₀ block last-member member-before size have hit lower queue parents names made due clear end = allowance - made
 
-pub play-rounds-spec : {M : Type 1} → statement M
-play-rounds-spec =
+pub play_rounds_spec : {M : Type 1} → statement M
+play_rounds_spec =
     tie.close
     (tie.spec invariant-loop decreases-loop
     (λ c. ((λ v. (play-first _ _ v, λ _. refl)), zero-le, refl, refl, refl, refl, refl, refl, refl, refl, refl, refl))

@@ -9,8 +9,8 @@ invariant-loop end counts₀ game₀ counts game = length counts ≡ length coun
 abbrev decreases-loop : tie.decreases-loop
 decreases-loop end counts₀ game₀ counts game = end - game
 
-pub games-below-spec : {M : Type 1} → statement M
-games-below-spec =
+pub games_below_spec : {M : Type 1} → statement M
+games_below_spec =
     tie.close
     (tie.spec invariant-loop decreases-loop
     (λ c. search rules)

@@ -10,8 +10,8 @@ invariant-loop n marks blocks moves s₀ s = s ≤ n
 abbrev decreases-loop : tie.decreases-loop
 decreases-loop n marks blocks moves s₀ s = n - s
 
-pub state-lines-spec : {M : Type 1} → statement M
-state-lines-spec =
+pub state_lines_spec : {M : Type 1} → statement M
+state_lines_spec =
     tie.close
     (tie.spec invariant-loop decreases-loop
     (λ c. search rules)

@@ -40,8 +40,8 @@ invariant-search n m side turn first to block last before lower hit b₀ b =
 abbrev decreases-search : tie.decreases-search
 decreases-search n m side turn first to block last before lower hit b₀ b = n - b
 
-pub border-block-spec : {M : Type 1} → statement M
-border-block-spec =
+pub border_block_spec : {M : Type 1} → statement M
+border_block_spec =
     tie.close
     (tie.spec invariant-loop2 decreases-loop2 invariant-loop decreases-loop invariant-search decreases-search
     (λ c. (search sweep, λ g q. some-zero _))

@@ -16,8 +16,8 @@ invariant-loop n m from first₀ k₀ first k = (k ≤ m) × Holds (suc n) first
 abbrev decreases-loop : tie.decreases-loop
 decreases-loop n m from first₀ k₀ first k = m - k
 
-pub first-moves-spec : {M : Type 1} → statement M
-first-moves-spec =
+pub first_moves_spec : {M : Type 1} → statement M
+first_moves_spec =
     tie.close
     (tie.spec invariant-loop decreases-loop
     (λ c. search nexts)

@@ -4,8 +4,8 @@ use borrow.Author.Tests.{eq-eqb, ne_eqb}
 use Rattle.rounds.proofs.is_open.Statement.{statement}
 use Rattle.rounds.proofs.is_open.Tie as tie
 
-pub is-open-spec : {M : Type 1} → statement M
-is-open-spec =
+pub is_open_spec : {M : Type 1} → statement M
+is_open_spec =
     tie.close
     (tie.spec
     (λ c. rw (ne_eqb _ _ c.if1.true) refl)

@@ -18,8 +18,8 @@ invariant-loop n b need have block inside number s₀ s = (s ≤ n) × (some s (
 abbrev decreases-loop : tie.decreases-loop
 decreases-loop n b need have block inside number s₀ s = n - s
 
-pub lowest-apart-spec : {M : Type 1} → statement M
-lowest-apart-spec =
+pub lowest_apart_spec : {M : Type 1} → statement M
+lowest_apart_spec =
     tie.close
     (tie.spec invariant-loop decreases-loop
     (λ c. search sweep)

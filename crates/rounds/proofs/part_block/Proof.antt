@@ -15,8 +15,8 @@ cond-not : (x : Bool) (v : ℕ) → cond (not x) v 0 ≡ cond x 0 v
 cond-not true v = refl
 cond-not false v = refl
 
-pub part-block-spec : {M : Type 1} → statement M
-part-block-spec =
+pub part_block_spec : {M : Type 1} → statement M
+part_block_spec =
     tie.close
     (tie.spec
     (λ c κs. search rules)

@@ -5,8 +5,8 @@ use Rattle.rounds.proofs.Prey.{chosen}
 use Rattle.rounds.proofs.prey_no.Statement.{statement}
 use Rattle.rounds.proofs.prey_no.Tie as tie
 
-pub prey-no-spec : {M : Type 1} → statement M
-prey-no-spec =
+pub prey_no_spec : {M : Type 1} → statement M
+prey_no_spec =
     tie.close
     (tie.spec
     (λ c κs. tt)

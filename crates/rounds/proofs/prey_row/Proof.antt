@@ -25,8 +25,8 @@ loop-holds : tie.Need-loop-init invariant-loop decreases-loop
 unfolding blank
 loop-holds c = (search sweep, fill_none _ (zeros max_states))
 
-pub prey-row-spec : {M : Type 1} → statement M
-prey-row-spec =
+pub prey_row_spec : {M : Type 1} → statement M
+prey_row_spec =
     tie.close
     (tie.spec invariant-loop decreases-loop
     loop-holds

@@ -19,8 +19,8 @@ invariant-loop n b name need have block₀ inside number s₀ block s =
 abbrev decreases-loop : tie.decreases-loop
 decreases-loop n b name need have block₀ inside number s₀ block s = n - s
 
-pub rename-apart-spec : {M : Type 1} → statement M
-rename-apart-spec =
+pub rename_apart_spec : {M : Type 1} → statement M
+rename_apart_spec =
     tie.close
     (tie.spec invariant-loop decreases-loop
     (λ c. search places)

@@ -4,8 +4,8 @@ use borrow.Author.Tests.{eq-eqb, ne_eqb}
 use Rattle.rounds.proofs.renamed.Statement.{statement}
 use Rattle.rounds.proofs.renamed.Tie as tie
 
-pub renamed-spec : {M : Type 1} → statement M
-renamed-spec =
+pub renamed_spec : {M : Type 1} → statement M
+renamed_spec =
     tie.close
     (tie.spec
     (λ c. rw (ne_eqb _ _ c.if1.true) refl)

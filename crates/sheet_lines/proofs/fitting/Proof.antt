@@ -4,5 +4,5 @@ use Rattle.io.proofs.Counting.{prefix_len_of_le}
 use Rattle.sheet_lines.proofs.fitting.Statement.{statement}
 use Rattle.sheet_lines.proofs.fitting.Tie as tie
 
-pub fitting-spec : {M : Type 1} → statement M
-fitting-spec = tie.close (tie.spec (λ c. prefix_len_of_le _ _ (omega arith)) (λ c. prefix_len_of_le _ _ (omega arith)))
+pub fitting_spec : {M : Type 1} → statement M
+fitting_spec = tie.close (tie.spec (λ c. prefix_len_of_le _ _ (omega arith)) (λ c. prefix_len_of_le _ _ (omega arith)))

@@ -11,8 +11,8 @@ invariant-loop line from value₀ at₀ value at = Unit {0}
 abbrev decreases-loop : tie.decreases-loop
 decreases-loop line from value₀ at₀ value at = length line - at
 
-pub number-from-spec : {M : Type 1} → statement M
-number-from-spec =
+pub number_from_spec : {M : Type 1} → statement M
+number_from_spec =
     tie.close
     (tie.spec invariant-loop decreases-loop
     (λ c. search rules)

@@ -13,8 +13,8 @@ invariant-loop digits file₀ count at₀ file at = (at ≤ count) × (length fi
 abbrev decreases-loop : tie.decreases-loop
 decreases-loop digits file₀ count at₀ file at = count - at
 
-pub read-digits-spec : {M : Type 1} → statement M
-read-digits-spec =
+pub read_digits_spec : {M : Type 1} → statement M
+read_digits_spec =
     tie.close
     (tie.spec invariant-loop decreases-loop
     (λ c κs. search rules)

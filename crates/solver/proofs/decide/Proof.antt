@@ -4,8 +4,8 @@ use Rattle.solver.proofs.Marks.{decided_no, decided_open, decided_yes}
 use Rattle.solver.proofs.decide.Statement.{statement}
 use Rattle.solver.proofs.decide.Tie as tie
 
-pub decide-spec : {M : Type 1} → statement M
-decide-spec =
+pub decide_spec : {M : Type 1} → statement M
+decide_spec =
     tie.close
     (tie.spec
     (λ c. search rules)

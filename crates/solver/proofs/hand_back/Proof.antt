@@ -13,8 +13,8 @@ use Rattle.solver.proofs.HandingBack.{few, lower_long, upper_long, planning, mar
 use Rattle.solver.proofs.hand_back.Statement.{statement}
 use Rattle.solver.proofs.hand_back.Tie as tie
 
-pub hand-back-spec : {M : Type 1} → statement M
-hand-back-spec =
+pub hand_back_spec : {M : Type 1} → statement M
+hand_back_spec =
     tie.close
     (tie.spec
     (λ c κs.

@@ -5,8 +5,8 @@ use Rattle.solver.proofs.Rowed.{finished, handed_back}
 use Rattle.solver.proofs.run_and_hand_back.Statement.{statement}
 use Rattle.solver.proofs.run_and_hand_back.Tie as tie
 
-pub run-and-hand-back-spec : {M : Type 1} → statement M
-run-and-hand-back-spec =
+pub run_and_hand_back_spec : {M : Type 1} → statement M
+run_and_hand_back_spec =
     tie.close
     (tie.spec
     (λ c κs. c.before.before.before.before.before.before.before.before.before.before.before.before.before.before.requires.0)

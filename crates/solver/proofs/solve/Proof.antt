@@ -5,8 +5,8 @@ use Rattle.solver.proofs.HandingBack.{short_marks, short_blocks, short_moves, lo
 use Rattle.solver.proofs.solve.Statement.{statement}
 use Rattle.solver.proofs.solve.Tie as tie
 
-pub solve-spec : {M : Type 1} → statement M
-solve-spec =
+pub solve_spec : {M : Type 1} → statement M
+solve_spec =
     tie.close
     (tie.spec
     (λ c. refused-row _ _ _ (short_marks _ c.if1.true))

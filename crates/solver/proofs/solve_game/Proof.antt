@@ -10,9 +10,9 @@ use Rattle.solver.proofs.Rowed.{few-states_of, few-moves_of, read_apart}
 use Rattle.solver.proofs.solve_game.Statement.{statement}
 use Rattle.solver.proofs.solve_game.Tie as tie
 
-pub solve-game-spec : {M : Type 1} → statement M
+pub solve_game_spec : {M : Type 1} → statement M
 unfolding blank
-solve-game-spec =
+solve_game_spec =
     tie.close
     (tie.spec
     (λ c κs. (let sound = accepted_sound _ 0 (sym c.before.before.before.before.requires.0) refl in omega (arith, sound.states-long)))

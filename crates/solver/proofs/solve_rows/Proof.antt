@@ -7,9 +7,9 @@ use Rattle.solver.proofs.Rowed.{few-states, few-moves, froms, tos, presented}
 use Rattle.solver.proofs.solve_rows.Statement.{statement}
 use Rattle.solver.proofs.solve_rows.Tie as tie
 
-pub solve-rows-spec : {M : Type 1} → statement M
+pub solve_rows_spec : {M : Type 1} → statement M
 unfolding blank
-solve-rows-spec =
+solve_rows_spec =
     tie.close
     (tie.spec
     (λ c. search rules)

@@ -6,8 +6,8 @@ use Rattle.solver.specs.Solve.{said}
 use Rattle.solver.proofs.spoken.Statement.{statement}
 use Rattle.solver.proofs.spoken.Tie as tie
 
-pub spoken-spec : {M : Type 1} → statement M
-spoken-spec =
+pub spoken_spec : {M : Type 1} → statement M
+spoken_spec =
     tie.close
     (tie.spec
     (λ c. search rules)

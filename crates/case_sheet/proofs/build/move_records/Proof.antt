@@ -12,8 +12,8 @@ invariant-loop file₀ states moves each first count₀ file count = (count ≤ 
 abbrev decreases-loop : tie.decreases-loop
 decreases-loop file₀ states moves each first count₀ file count = moves - count
 
-pub move-records-spec : {M : Type 1} → statement M
-move-records-spec =
+pub move_records_spec : {M : Type 1} → statement M
+move_records_spec =
     tie.close
     (tie.spec invariant-loop decreases-loop
     (λ c κs. search rules)

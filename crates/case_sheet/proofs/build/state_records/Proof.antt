@@ -12,8 +12,8 @@ invariant-loop file₀ states state₀ file state = (state ≤ states) × (lengt
 abbrev decreases-loop : tie.decreases-loop
 decreases-loop file₀ states state₀ file state = states - state
 
-pub state-records-spec : {M : Type 1} → statement M
-state-records-spec =
+pub state_records_spec : {M : Type 1} → statement M
+state_records_spec =
     tie.close
     (tie.spec invariant-loop decreases-loop
     (λ c. search rules)

@@ -11,8 +11,8 @@ invariant-loop row at₀ at = at ≤ length row
 abbrev decreases-loop : tie.decreases-loop
 decreases-loop row at₀ at = length row - at
 
-pub hexadecimal-spec : {M : Type 1} → statement M
-hexadecimal-spec =
+pub hexadecimal_spec : {M : Type 1} → statement M
+hexadecimal_spec =
     tie.close
     (tie.spec invariant-loop decreases-loop
     (λ c. search rules)

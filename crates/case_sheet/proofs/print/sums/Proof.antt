@@ -11,8 +11,8 @@ invariant-loop row plain₀ weighted₀ at₀ plain weighted at = (at ≤ length
 abbrev decreases-loop : tie.decreases-loop
 decreases-loop row plain₀ weighted₀ at₀ plain weighted at = length row - at
 
-pub sums-spec : {M : Type 1} → statement M
-sums-spec =
+pub sums_spec : {M : Type 1} → statement M
+sums_spec =
     tie.close
     (tie.spec invariant-loop decreases-loop
     (λ c. search rules)

@@ -11,8 +11,8 @@ invariant-loop text at₀ at = Unit {0}
 abbrev decreases-loop : tie.decreases-loop
 decreases-loop text at₀ at = length text - at
 
-pub each-line-spec : {M : Type 1} → statement M
-each-line-spec =
+pub each_line_spec : {M : Type 1} → statement M
+each_line_spec =
     tie.close
     (tie.spec invariant-loop decreases-loop
     (λ c. search rules)

@@ -12,8 +12,8 @@ invariant-loop out₀ at₀ out at = (at ≤ length out₀) × (length out ≡ l
 abbrev decreases-loop : tie.decreases-loop
 decreases-loop out₀ at₀ out at = length out₀ - at
 
-pub blank-spec : {M : Type 1} → statement M
-blank-spec =
+pub blank_spec : {M : Type 1} → statement M
+blank_spec =
     tie.close
     (tie.spec invariant-loop decreases-loop
     (λ c. search rules)

@@ -11,8 +11,8 @@ invariant-loop out from at₀ at = Unit {0}
 abbrev decreases-loop : tie.decreases-loop
 decreases-loop out from at₀ at = length out - at
 
-pub is-blank-spec : {M : Type 1} → statement M
-is-blank-spec =
+pub is_blank_spec : {M : Type 1} → statement M
+is_blank_spec =
     tie.close
     (tie.spec invariant-loop decreases-loop
     (λ c. search rules)

@@ -21,8 +21,8 @@ invariant-loop file n m from₀ to₀ k₀ from to k =
 abbrev decreases-loop : tie.decreases-loop
 decreases-loop file n m from₀ to₀ k₀ from to k = m - k
 
-pub plain-moves-spec : {M : Type 1} → statement M
-plain-moves-spec =
+pub plain_moves_spec : {M : Type 1} → statement M
+plain_moves_spec =
     tie.close
     (tie.spec invariant-loop decreases-loop
     (λ c. (search walk, fill_none _ _, fill_none _ _, refl, refl))

@@ -22,8 +22,8 @@ invariant-loop file n turn₀ marks₀ block₀ s₀ turn marks block s =
 abbrev decreases-loop : tie.decreases-loop
 decreases-loop file n turn₀ marks₀ block₀ s₀ turn marks block s = n - s
 
-pub plain-states-spec : {M : Type 1} → statement M
-plain-states-spec =
+pub plain_states_spec : {M : Type 1} → statement M
+plain_states_spec =
     tie.close
     (tie.spec invariant-loop decreases-loop
     (λ c. (search walk, fill_none _ _, fill_none _ _, fill_none _ _, refl, refl, refl))

@@ -4,8 +4,8 @@ use borrow.Author.Rules.{rules}
 use Rattle.demands.proofs.again.decode_again.Statement.{statement}
 use Rattle.demands.proofs.again.decode_again.Tie as tie
 
-pub decode-again-spec : {M : Type 1} → statement M
-decode-again-spec =
+pub decode_again_spec : {M : Type 1} → statement M
+decode_again_spec =
     tie.close
     (tie.spec
     (λ c κs. search rules)

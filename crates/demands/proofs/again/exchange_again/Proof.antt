@@ -5,8 +5,8 @@ use Rattle.exchange.specs.Exchange.{exchanged}
 use Rattle.demands.proofs.again.exchange_again.Statement.{statement}
 use Rattle.demands.proofs.again.exchange_again.Tie as tie
 
-pub exchange-again-spec : {M : Type 1} → statement M
-exchange-again-spec =
+pub exchange_again_spec : {M : Type 1} → statement M
+exchange_again_spec =
     tie.close
     (tie.spec
     (λ c κs. search rules)

@@ -5,8 +5,8 @@ use Rattle.solver.specs.Solve.{solved}
 use Rattle.demands.proofs.again.solve_again.Statement.{statement}
 use Rattle.demands.proofs.again.solve_again.Tie as tie
 
-pub solve-again-spec : {M : Type 1} → statement M
-solve-again-spec =
+pub solve_again_spec : {M : Type 1} → statement M
+solve_again_spec =
     tie.close
     (tie.spec
     (λ c κs. search rules)

@@ -5,8 +5,8 @@ use Rattle.demands.proofs.Calls.{solve_promise}
 use Rattle.demands.proofs.c_calls.c_solve_as_promised.Statement.{statement}
 use Rattle.demands.proofs.c_calls.c_solve_as_promised.Tie as tie
 
-pub c-solve-as-promised-spec : {M : Type 1} → statement M
-c-solve-as-promised-spec =
+pub c_solve_as_promised_spec : {M : Type 1} → statement M
+c_solve_as_promised_spec =
     tie.close
     (tie.spec
     (λ c κs. search rules)

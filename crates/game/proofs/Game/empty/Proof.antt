@@ -5,6 +5,6 @@ use Rattle.game.specs.Game.{empty_game}
 use Rattle.game.proofs.Game.empty.Statement.{statement}
 use Rattle.game.proofs.Game.empty.Tie as tie
 
-pub empty-spec : {M : Type 1} → statement M
+pub empty_spec : {M : Type 1} → statement M
 unfolding empty_game blank
-empty-spec = tie.close (tie.spec (λ c. refl))
+empty_spec = tie.close (tie.spec (λ c. refl))

@@ -9,8 +9,8 @@ invariant-loop counts₀ shape one other which₀ counts which = length counts �
 abbrev decreases-loop : tie.decreases-loop
 decreases-loop counts₀ shape one other which₀ counts which = length counts₀ - which
 
-pub count-game-spec : {M : Type 1} → statement M
-count-game-spec =
+pub count_game_spec : {M : Type 1} → statement M
+count_game_spec =
     tie.close
     (tie.spec invariant-loop decreases-loop
     (λ c. search rules)

@@ -9,8 +9,8 @@ invariant-loop counts which₀ which = Unit {0}
 abbrev decreases-loop : tie.decreases-loop
 decreases-loop counts which₀ which = length counts - which
 
-pub print-spec : {M : Type 1} → statement M
-print-spec =
+pub print_spec : {M : Type 1} → statement M
+print_spec =
     tie.close
     (tie.spec invariant-loop decreases-loop
     (λ c. search rules)

@@ -9,8 +9,8 @@ invariant-loop text number part₀ at₀ part at = at ≤ length text
 abbrev decreases-loop : tie.decreases-loop
 decreases-loop text number part₀ at₀ part at = length text - at
 
-pub print-part-spec : {M : Type 1} → statement M
-print-part-spec =
+pub print_part_spec : {M : Type 1} → statement M
+print_part_spec =
     tie.close
     (tie.spec invariant-loop decreases-loop
     (λ c. search rules)

@@ -9,8 +9,8 @@ invariant-loop one other check from end place₀ place = Unit {0}
 abbrev decreases-loop : tie.decreases-loop
 decreases-loop one other check from end place₀ place = end - place
 
-pub holds-between-spec : {M : Type 1} → statement M
-holds-between-spec =
+pub holds_between_spec : {M : Type 1} → statement M
+holds_between_spec =
     tie.close
     (tie.spec invariant-loop decreases-loop
     (λ c. search rules)

@@ -9,8 +9,8 @@ invariant-loop sheet part value states state₀ state = Unit {0}
 abbrev decreases-loop : tie.decreases-loop
 decreases-loop sheet part value states state₀ state = states - state
 
-pub lowest-start-spec : {M : Type 1} → statement M
-lowest-start-spec =
+pub lowest_start_spec : {M : Type 1} → statement M
+lowest_start_spec =
     tie.close
     (tie.spec invariant-loop decreases-loop
     (λ c κs. search rules)

@@ -9,8 +9,8 @@ invariant-loop sheet state other end number₀ number = Unit {0}
 abbrev decreases-loop : tie.decreases-loop
 decreases-loop sheet state other end number₀ number = end - number
 
-pub has-move-spec : {M : Type 1} → statement M
-has-move-spec =
+pub has_move_spec : {M : Type 1} → statement M
+has_move_spec =
     tie.close
     (tie.spec invariant-loop decreases-loop
     (λ c κs. search rules)

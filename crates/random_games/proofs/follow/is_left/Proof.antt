@@ -9,8 +9,8 @@ invariant-loop sheet state end number₀ number = Unit {0}
 abbrev decreases-loop : tie.decreases-loop
 decreases-loop sheet state end number₀ number = end - number
 
-pub is-left-spec : {M : Type 1} → statement M
-is-left-spec =
+pub is_left_spec : {M : Type 1} → statement M
+is_left_spec =
     tie.close
     (tie.spec invariant-loop decreases-loop
     (λ c κs. search rules)

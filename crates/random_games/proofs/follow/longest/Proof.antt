@@ -9,8 +9,8 @@ invariant-loop sheet states longest₀ state₀ longest state = Unit {0}
 abbrev decreases-loop : tie.decreases-loop
 decreases-loop sheet states longest₀ state₀ longest state = states - state
 
-pub longest-spec : {M : Type 1} → statement M
-longest-spec =
+pub longest_spec : {M : Type 1} → statement M
+longest_spec =
     tie.close
     (tie.spec invariant-loop decreases-loop
     (λ c κs. search rules)

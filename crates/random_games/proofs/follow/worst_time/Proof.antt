@@ -9,8 +9,8 @@ invariant-loop sheet state end worst₀ number₀ worst number = Unit {0}
 abbrev decreases-loop : tie.decreases-loop
 decreases-loop sheet state end worst₀ number₀ worst number = end - number
 
-pub worst-time-spec : {M : Type 1} → statement M
-worst-time-spec =
+pub worst_time_spec : {M : Type 1} → statement M
+worst_time_spec =
     tie.close
     (tie.spec invariant-loop decreases-loop
     (λ c κs. search rules)

@@ -9,8 +9,8 @@ invariant-loop shape file₀ states at₀ state₀ file at state = length file �
 abbrev decreases-loop : tie.decreases-loop
 decreases-loop shape file₀ states at₀ state₀ file at state = states - state
 
-pub move-records-spec : {M : Type 1} → statement M
-move-records-spec =
+pub move_records_spec : {M : Type 1} → statement M
+move_records_spec =
     tie.close
     (tie.spec invariant-loop decreases-loop
     (λ c. search rules)

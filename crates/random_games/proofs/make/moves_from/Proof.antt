@@ -9,8 +9,8 @@ invariant-loop shape state file₀ at most width next₀ low₀ number₀ file n
 abbrev decreases-loop : tie.decreases-loop
 decreases-loop shape state file₀ at most width next₀ low₀ number₀ file next low number = most - number
 
-pub moves-from-spec : {M : Type 1} → statement M
-moves-from-spec =
+pub moves_from_spec : {M : Type 1} → statement M
+moves_from_spec =
     tie.close
     (tie.spec invariant-loop decreases-loop
     (λ c κs. search rules)

@@ -9,8 +9,8 @@ invariant-loop shape file₀ lowest₀ states state₀ file lowest state = (leng
 abbrev decreases-loop : tie.decreases-loop
 decreases-loop shape file₀ lowest₀ states state₀ file lowest state = states - state
 
-pub state-records-spec : {M : Type 1} → statement M
-state-records-spec =
+pub state_records_spec : {M : Type 1} → statement M
+state_records_spec =
     tie.close
     (tie.spec invariant-loop decreases-loop
     (λ c. search rules)

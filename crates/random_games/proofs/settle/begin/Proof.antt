@@ -9,8 +9,8 @@ invariant-loop sheet₀ part value states state₀ sheet state = Unit {0}
 abbrev decreases-loop : tie.decreases-loop
 decreases-loop sheet₀ part value states state₀ sheet state = states - state
 
-pub begin-spec : {M : Type 1} → statement M
-begin-spec =
+pub begin_spec : {M : Type 1} → statement M
+begin_spec =
     tie.close
     (tie.spec invariant-loop decreases-loop
     (λ c κs. search rules)

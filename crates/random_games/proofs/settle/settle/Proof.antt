@@ -9,8 +9,8 @@ invariant-loop sheet₀ part value states passes₀ sheet passes = Unit {0}
 abbrev decreases-loop : tie.decreases-loop
 decreases-loop sheet₀ part value states passes₀ sheet passes = states - passes
 
-pub settle-spec : {M : Type 1} → statement M
-settle-spec =
+pub settle_spec : {M : Type 1} → statement M
+settle_spec =
     tie.close
     (tie.spec invariant-loop decreases-loop
     (λ c κs. search rules)

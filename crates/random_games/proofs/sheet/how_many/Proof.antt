@@ -9,8 +9,8 @@ invariant-loop sheet kind states found₀ state₀ found state = Unit {0}
 abbrev decreases-loop : tie.decreases-loop
 decreases-loop sheet kind states found₀ state₀ found state = states - state
 
-pub how-many-spec : {M : Type 1} → statement M
-how-many-spec =
+pub how_many_spec : {M : Type 1} → statement M
+how_many_spec =
     tie.close
     (tie.spec invariant-loop decreases-loop
     (λ c κs. search rules)

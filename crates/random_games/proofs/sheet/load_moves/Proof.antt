@@ -9,8 +9,8 @@ invariant-loop sheet₀ game moves number₀ sheet number = Unit {0}
 abbrev decreases-loop : tie.decreases-loop
 decreases-loop sheet₀ game moves number₀ sheet number = moves - number
 
-pub load-moves-spec : {M : Type 1} → statement M
-load-moves-spec =
+pub load_moves_spec : {M : Type 1} → statement M
+load_moves_spec =
     tie.close
     (tie.spec invariant-loop decreases-loop
     (λ c κs. search rules)

@@ -9,8 +9,8 @@ invariant-loop sheet₀ game states state₀ sheet state = Unit {0}
 abbrev decreases-loop : tie.decreases-loop
 decreases-loop sheet₀ game states state₀ sheet state = states - state
 
-pub load-states-spec : {M : Type 1} → statement M
-load-states-spec =
+pub load_states_spec : {M : Type 1} → statement M
+load_states_spec =
     tie.close
     (tie.spec invariant-loop decreases-loop
     (λ c κs. search rules)

@@ -9,8 +9,8 @@ invariant-loop out expected at₀ at = at ≤ length expected
 abbrev decreases-loop : tie.decreases-loop
 decreases-loop out expected at₀ at = length expected - at
 
-pub begins-spec : {M : Type 1} → statement M
-begins-spec =
+pub begins_spec : {M : Type 1} → statement M
+begins_spec =
     tie.close
     (tie.spec invariant-loop decreases-loop
     (λ c. search rules)

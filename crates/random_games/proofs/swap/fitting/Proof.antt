@@ -7,5 +7,5 @@ use Rattle.random_games.proofs.swap.fitting.Tie as tie
 counts : (n : ℕ) (row : List ℕ) → n ≤ length row → IsPrefixLen n row
 counts n row fits = (fits, sym (length-take-le n row fits))
 
-pub fitting-spec : {M : Type 1} → statement M
-fitting-spec = tie.close (tie.spec (λ c. counts _ _ (omega arith)) (λ c. counts _ _ (omega arith)))
+pub fitting_spec : {M : Type 1} → statement M
+fitting_spec = tie.close (tie.spec (λ c. counts _ _ (omega arith)) (λ c. counts _ _ (omega arith)))

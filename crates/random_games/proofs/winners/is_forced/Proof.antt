@@ -9,8 +9,8 @@ invariant-loop sheet state chooses end number₀ number = Unit {0}
 abbrev decreases-loop : tie.decreases-loop
 decreases-loop sheet state chooses end number₀ number = end - number
 
-pub is-forced-spec : {M : Type 1} → statement M
-is-forced-spec =
+pub is_forced_spec : {M : Type 1} → statement M
+is_forced_spec =
     tie.close
     (tie.spec invariant-loop decreases-loop
     (λ c κs. search rules)

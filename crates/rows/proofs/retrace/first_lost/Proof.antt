@@ -30,8 +30,8 @@ invariant-loop n m objective clear made starts from to last before need prey par
 abbrev decreases-loop : tie.decreases-loop
 decreases-loop n m objective clear made starts from to last before need prey parents names block₀ earlier₀ low₀ high₀ block earlier low high = high - low
 
-pub first-lost-spec : {M : Type 1} → statement M
-first-lost-spec =
+pub first_lost_spec : {M : Type 1} → statement M
+first_lost_spec =
     tie.close
     (tie.spec invariant-loop decreases-loop
     (λ c. (c.before.before.before.before.before.before.before.before.before.before.requires.bisecting.low, omega arith, (λ t. (t.bisecting, t.blocks_are)), refl, search rules, λ _. refl))

@@ -14,8 +14,8 @@ invariant-loop n values out₀ s₀ out s = (s ≤ n) × Holds s out (λ t. get_
 abbrev decreases-loop : tie.decreases-loop
 decreases-loop n values out₀ s₀ out s = n - s
 
-pub copy-row-spec : {M : Type 1} → statement M
-copy-row-spec =
+pub copy_row_spec : {M : Type 1} → statement M
+copy_row_spec =
     tie.close
     (tie.spec invariant-loop decreases-loop
     (λ c. (search places, holds_none _ _, refl))

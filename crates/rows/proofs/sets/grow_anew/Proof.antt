@@ -14,8 +14,8 @@ use Rattle.rows.proofs.sets.grow_anew.Tie as tie
 sound-few : {g : Game} {side n m : ℕ} {from to need block : List ℕ} → Lent g side n m from to need block → n ≤ max_states
 sound-few p = rw (← p.states_is) p.ranged.few-states
 
-pub grow-anew-spec : {M : Type 1} → statement M
-grow-anew-spec =
+pub grow_anew_spec : {M : Type 1} → statement M
+grow_anew_spec =
     tie.close
     (tie.spec
     (λ c κs. (let start = c.before.before.before.before.before.before.before.before.before.before.before.before.before.before.before.before in (sound-few start.requires.0.2, blocks start.requires.0.2, start.requires.1.1, start.requires.1.2, start.requires.1.3)))

@@ -5,8 +5,8 @@ use Rattle.rows.proofs.Present.{lent, few-states, grown_anew, way_is}
 use Rattle.rows.proofs.sets.may_have_way.Statement.{statement}
 use Rattle.rows.proofs.sets.may_have_way.Tie as tie
 
-pub may-have-way-spec : {M : Type 1} → statement M
-may-have-way-spec =
+pub may_have_way_spec : {M : Type 1} → statement M
+may_have_way_spec =
     tie.close
     (tie.spec
     (λ c. search rules)

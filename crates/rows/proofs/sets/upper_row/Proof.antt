@@ -5,8 +5,8 @@ use Rattle.rows.proofs.Copies.{counted_copy}
 use Rattle.rows.proofs.sets.upper_row.Statement.{statement}
 use Rattle.rows.proofs.sets.upper_row.Tie as tie
 
-pub upper-row-spec : {M : Type 1} → statement M
-upper-row-spec =
+pub upper_row_spec : {M : Type 1} → statement M
+upper_row_spec =
     tie.close
     (tie.spec
     (λ c. search rules)

@@ -7,8 +7,8 @@ use Rattle.rows.proofs.Splitting.{hits_have, both_parts, inner_small, inner-due,
 use Rattle.rows.proofs.splits.split_round.Statement.{statement}
 use Rattle.rows.proofs.splits.split_round.Tie as tie
 
-pub split-round-spec : {M : Type 1} → statement M
-split-round-spec =
+pub split_round_spec : {M : Type 1} → statement M
+split_round_spec =
     tie.close
     (tie.spec
     (λ c κs. (let u = c.before.before.before.before.before.before.before.before.before.before.before.before.before.before.before.before.before.before.before.requires.0 in

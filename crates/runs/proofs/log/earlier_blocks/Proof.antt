@@ -23,8 +23,8 @@ invariant-loop n later earlier parents names block₀ k₀ block k =
 abbrev decreases-loop : tie.decreases-loop
 decreases-loop n later earlier parents names block₀ k₀ block k = k - earlier
 
-pub earlier-blocks-spec : {M : Type 1} → statement M
-earlier-blocks-spec =
+pub earlier_blocks_spec : {M : Type 1} → statement M
+earlier_blocks_spec =
     tie.close
     (tie.spec invariant-loop decreases-loop
     (λ c. (c.before.before.before.requires.0.4, omega arith, (λ g made log l was. was), refl))

@@ -18,8 +18,8 @@ invariant-loop n parent name block₀ s₀ block s =
 abbrev decreases-loop : tie.decreases-loop
 decreases-loop n parent name block₀ s₀ block s = n - s
 
-pub undo-split-spec : {M : Type 1} → statement M
-undo-split-spec =
+pub undo_split_spec : {M : Type 1} → statement M
+undo_split_spec =
     tie.close
     (tie.spec invariant-loop decreases-loop
     (λ c. (search places, fill_none _ _, refl))

@@ -4,8 +4,8 @@ use Rattle.arena.proofs.Choices.{choices, and_pass, and_stop}
 use Rattle.runs.proofs.starts.decides.Statement.{statement}
 use Rattle.runs.proofs.starts.decides.Tie as tie
 
-pub decides-spec : {M : Type 1} → statement M
-decides-spec =
+pub decides_spec : {M : Type 1} → statement M
+decides_spec =
     tie.close
     (tie.spec
     (λ c κs. search choices)

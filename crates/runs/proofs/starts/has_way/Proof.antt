@@ -20,8 +20,8 @@ invariant-loop n objective starts row reach s₀ s =
 abbrev decreases-loop : tie.decreases-loop
 decreases-loop n objective starts row reach s₀ s = n - s
 
-pub has-way-spec : {M : Type 1} → statement M
-has-way-spec =
+pub has_way_spec : {M : Type 1} → statement M
+has_way_spec =
     tie.close
     (tie.spec invariant-loop decreases-loop
     (λ c. search places)

@@ -4,5 +4,5 @@ use Rattle.io.proofs.Counting.{prefix_len_of_le}
 use Rattle.solve_sheet.proofs.show.fitting_row.Statement.{statement}
 use Rattle.solve_sheet.proofs.show.fitting_row.Tie as tie
 
-pub fitting-row-spec : {M : Type 1} → statement M
-fitting-row-spec = tie.close (tie.spec (λ c. prefix_len_of_le _ _ (omega arith)) (λ c. prefix_len_of_le _ _ (omega arith)))
+pub fitting_row_spec : {M : Type 1} → statement M
+fitting_row_spec = tie.close (tie.spec (λ c. prefix_len_of_le _ _ (omega arith)) (λ c. prefix_len_of_le _ _ (omega arith)))

@@ -11,8 +11,8 @@ invariant-loop row from at₀ at = Unit {0}
 abbrev decreases-loop : tie.decreases-loop
 decreases-loop row from at₀ at = length row - at
 
-pub is-blank-spec : {M : Type 1} → statement M
-is-blank-spec =
+pub is_blank_spec : {M : Type 1} → statement M
+is_blank_spec =
     tie.close
     (tie.spec invariant-loop decreases-loop
     (λ c. search rules)

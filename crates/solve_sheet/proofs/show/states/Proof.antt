@@ -10,8 +10,8 @@ invariant-loop count marks blocks moves this₀ this = this ≤ count
 abbrev decreases-loop : tie.decreases-loop
 decreases-loop count marks blocks moves this₀ this = count - this
 
-pub states-spec : {M : Type 1} → statement M
-states-spec =
+pub states_spec : {M : Type 1} → statement M
+states_spec =
     tie.close
     (tie.spec invariant-loop decreases-loop
     (λ c. search rules)

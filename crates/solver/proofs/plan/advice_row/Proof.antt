@@ -24,8 +24,8 @@ loop-holds : tie.Need-loop-init invariant-loop decreases-loop
 unfolding blank
 loop-holds c = (search places, record { long = blank-length max_states no_move; cell = λ s l. blank_at max_states no_move s l ∙ sym (good_none _ _ _ _ _ _ s) })
 
-pub advice-row-spec : {M : Type 1} → statement M
-advice-row-spec =
+pub advice_row_spec : {M : Type 1} → statement M
+advice_row_spec =
     tie.close
     (tie.spec invariant-loop decreases-loop
     loop-holds

@@ -4,9 +4,9 @@ use Rattle.solver.specs.Work.{lower_of}
 use Rattle.solver.proofs.plan.better.Statement.{statement}
 use Rattle.solver.proofs.plan.better.Tie as tie
 
-pub better-spec : {M : Type 1} → statement M
+pub better_spec : {M : Type 1} → statement M
 unfolding lower_of
-better-spec =
+better_spec =
     tie.close
     (tie.spec
     (λ c. search choices)

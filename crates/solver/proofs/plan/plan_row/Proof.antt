@@ -19,8 +19,8 @@ unfolding blank rule
 returns-3 c g p said s l =
     blank_at max_states no_move s (omega (arith, p.worked.ranged.few-states)) ∙ planned_by g s _ said OPEN (ap word_of c.enum-told3.given.1)
 
-pub plan-row-spec : {M : Type 1} → statement M
-plan-row-spec =
+pub plan_row_spec : {M : Type 1} → statement M
+plan_row_spec =
     tie.close
     (tie.spec
     (λ c. search rules)

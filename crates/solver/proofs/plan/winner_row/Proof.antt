@@ -7,8 +7,8 @@ use Rattle.solver.proofs.Plans.{walk-safe, winner_chases, winner_flees, hunted}
 use Rattle.solver.proofs.plan.winner_row.Statement.{statement}
 use Rattle.solver.proofs.plan.winner_row.Tie as tie
 
-pub winner-row-spec : {M : Type 1} → statement M
-winner-row-spec =
+pub winner_row_spec : {M : Type 1} → statement M
+winner_row_spec =
     tie.close
     (tie.spec
     (λ c κs. search rules)

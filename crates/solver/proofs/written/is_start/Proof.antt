@@ -3,8 +3,8 @@ use Rattle.arena.proofs.Choices.{choices}
 use Rattle.solver.proofs.written.is_start.Statement.{statement}
 use Rattle.solver.proofs.written.is_start.Tie as tie
 
-pub is-start-spec : {M : Type 1} → statement M
-is-start-spec =
+pub is_start_spec : {M : Type 1} → statement M
+is_start_spec =
     tie.close
     (tie.spec
     (λ c κs. search choices)

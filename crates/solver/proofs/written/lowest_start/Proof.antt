@@ -18,8 +18,8 @@ invariant-loop n starts marks wanted s₀ s = (s ≤ n) × (some s (λ t. marked
 abbrev decreases-loop : tie.decreases-loop
 decreases-loop n starts marks wanted s₀ s = n - s
 
-pub lowest-start-spec : {M : Type 1} → statement M
-lowest-start-spec =
+pub lowest_start_spec : {M : Type 1} → statement M
+lowest_start_spec =
     tie.close
     (tie.spec invariant-loop decreases-loop
     (λ c. search sweep)

@@ -4,9 +4,9 @@ use Rattle.solver.specs.Work.{mark_no}
 use Rattle.solver.proofs.written.mark_no.Statement.{statement}
 use Rattle.solver.proofs.written.mark_no.Tie as tie
 
-pub mark-no-spec : {M : Type 1} → statement M
+pub mark_no_spec : {M : Type 1} → statement M
 unfolding mark_no
-mark-no-spec =
+mark_no_spec =
     tie.close
     (tie.spec
     (λ c. search choices)

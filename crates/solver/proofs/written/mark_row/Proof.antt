@@ -22,8 +22,8 @@ loop-holds : tie.Need-loop-init invariant-loop decreases-loop
 unfolding blank
 loop-holds c = (search sweep, fill_none _ (zeros max_states))
 
-pub mark-row-spec : {M : Type 1} → statement M
-mark-row-spec =
+pub mark_row_spec : {M : Type 1} → statement M
+mark_row_spec =
     tie.close
     (tie.spec invariant-loop decreases-loop
     loop-holds

@@ -14,8 +14,8 @@ invariant-loop n values out₀ s₀ out s = (s ≤ n) × (out ≡ fill s (λ t. 
 abbrev decreases-loop : tie.decreases-loop
 decreases-loop n values out₀ s₀ out s = n - s
 
-pub write-row-spec : {M : Type 1} → statement M
-write-row-spec =
+pub write_row_spec : {M : Type 1} → statement M
+write_row_spec =
     tie.close
     (tie.spec invariant-loop decreases-loop
     (λ c. (search walk, fill_none _ _, refl))

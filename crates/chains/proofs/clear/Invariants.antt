@@ -1,0 +1,15 @@
+-- `clear` meets its contract: the places passed hold 0.
+use Prim.Native.Nat.{◌-◌, ◌≤◌}
+use mathlib.Core.Path.{◌≡◌, refl}
+use native.Mathlib.Omega.{arith}
+use lib.ListN.{length, length-set}
+use Rattle.chains.specs.Lent.{Holds}
+use Rattle.chains.proofs.Filling.{holds_none, holds_more, places}
+use Rattle.chains.proofs.clear.Given as goal
+
+abbrev pub invariant-loop-s : goal.invariant-loop-s
+invariant-loop-s l =
+    (l.s ≤ l.n) × Holds l.s l.row (λ _. 0) × (length l.row ≡ length l.initial.row)
+
+abbrev pub decreases-loop-s : goal.decreases-loop-s
+decreases-loop-s l = l.n - l.s

@@ -1,0 +1,15 @@
+-- `count_keys` meets its contract: the keys passed are counted.
+use Prim.Native.Nat.{◌-◌, ◌≤◌}
+use mathlib.Core.Path.{◌≡◌, refl}
+use native.Mathlib.Omega.{arith}
+use lib.ListN.{length, get_or, length-set}
+use Rattle.chains.specs.Lent.{Holds, many_of}
+use Rattle.chains.proofs.Filling.{places, many_none, many_more, many_le}
+use Rattle.chains.proofs.count_keys.Given as goal
+
+abbrev pub invariant-loop-k : goal.invariant-loop-k
+invariant-loop-k l =
+    (l.k ≤ l.m) × Holds l.n l.out (many_of l.k l.key) × (length l.out ≡ length l.initial.out)
+
+abbrev pub decreases-loop-k : goal.decreases-loop-k
+decreases-loop-k l = l.m - l.k

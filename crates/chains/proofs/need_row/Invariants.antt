@@ -1,0 +1,18 @@
+-- `need_row` meets its contract: the places passed say what is needed, the others still how many moves there are.
+use Prim.Native.Nat.{◌-◌, ◌≤◌}
+use mathlib.Core.Path.{◌≡◌, refl}
+use mathlib.Core.Bool.{cond}
+use native.Mathlib.Omega.{arith}
+use lib.ListN.{length, get_or, length-set}
+use lib.Dec.{eqb}
+use Rattle.game.specs.Rows.{fill}
+use Rattle.game.proofs.Rows.{fill_none, fill_done}
+use Rattle.chains.proofs.Filling.{places, filled, change_more}
+use Rattle.chains.proofs.need_row.Given as goal
+
+abbrev pub invariant-loop-s : goal.invariant-loop-s
+invariant-loop-s l =
+    (l.s ≤ l.n) × (l.need ≡ fill l.s (λ t. cond (eqb (get_or l.turn t 0) l.side) 1 (get_or l.initial.need t 0)) l.initial.need) × (length l.need ≡ length l.initial.need)
+
+abbrev pub decreases-loop-s : goal.decreases-loop-s
+decreases-loop-s l = l.n - l.s
