@@ -24,7 +24,7 @@ use game::{BlockNo, Game, has_mark};
 pub type PassRow = [u16; Game::MAX_STATES];
 
 // What the search for a border block found.
-#[derive(Drop)]
+#[derive(Clone, Copy)]
 pub enum Border {
     At(BlockNo),
     Nothing,

@@ -11,7 +11,7 @@ use growth::grow_on;
 use rounds::part_block;
 
 // What a split leaves: the name of the new block, and the end of the queue.
-#[derive(Drop)]
+#[derive(Clone, Copy)]
 pub struct Step {
     pub name: u16,
     pub tail: usize,
