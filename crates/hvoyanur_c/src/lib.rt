@@ -33,15 +33,14 @@ fn pack(verdict: Verdict) -> u64
 
 // Solves the game of a file with at most `allowance` splits. Returns word × 2^32 + named × 2^16 + splits: the word is 1
 // for YES, 2 for NO, 3 for OPEN and 0 for a refusal; the named number is the start, 65535 for none, or the refusal's.
-#[unsafe(no_mangle)]
-pub extern "C" fn hvoyanur_solve(
+pub fn hvoyanur_solve(
     file: &[u8],
     marks: &mut [u16],
     blocks: &mut [u16],
     moves: &mut [u16],
     allowance: u16,
 ) -> u64
-    ensures { record { value = result; rows = record { marks = marks.exit.now; blocks = blocks.new; moves = moves.new } } ≡ packed_outcome (solved file.now allowance (record { marks = marks.entry.now; blocks = blocks.old; moves = moves.old })) }
+    ensures { record { value = result; rows = record { marks = marks.new; blocks = blocks.new; moves = moves.new } } ≡ packed_outcome (solved file.now allowance (record { marks = marks.old; blocks = blocks.old; moves = moves.old })) }
 {
     let verdict = solver::solve(file, allowance, marks, blocks, moves);
     pack(verdict)
@@ -49,8 +48,7 @@ pub extern "C" fn hvoyanur_solve(
 
 // Writes the file of the exchanged game into the first bytes of the output. Returns 2^32 + the length written, or the
 // refusal's number.
-#[unsafe(no_mangle)]
-pub extern "C" fn hvoyanur_exchange(file: &[u8], out: &mut [u8]) -> u64
+pub fn hvoyanur_exchange(file: &[u8], out: &mut [u8]) -> u64
     ensures { record { value = result; output = out.new } ≡ packed_writing (exchanged file.now out.old) }
 {
     let answer = exchange::exchange(file, out);
