@@ -36,7 +36,7 @@ pub fn solve_again(
     blocks_again: &mut [u16],
     moves_again: &mut [u16],
 ) -> TwoVerdicts
-    ensures { ◌≡◌ {A = Rows} (record { marks = marks.entry.now; blocks = blocks.old; moves = moves.old }) (record { marks = marks_again.old; blocks = blocks_again.old; moves = moves_again.old }) → ◌≡◌ {A = Outcome} (record { answer = result.first; rows = record { marks = marks.exit.now; blocks = blocks.new; moves = moves.new } }) (record { answer = result.second; rows = record { marks = marks_again.new; blocks = blocks_again.new; moves = moves_again.new } }) }
+    ensures { ◌≡◌ {A = Rows} (record { marks = marks.old; blocks = blocks.old; moves = moves.old }) (record { marks = marks_again.old; blocks = blocks_again.old; moves = moves_again.old }) → ◌≡◌ {A = Outcome} (record { answer = result.first; rows = record { marks = marks.new; blocks = blocks.new; moves = moves.new } }) (record { answer = result.second; rows = record { marks = marks_again.new; blocks = blocks_again.new; moves = moves_again.new } }) }
 {
     let first = solver::solve(file, allowance, marks, blocks, moves);
     let second = solver::solve(file, allowance, marks_again, blocks_again, moves_again);

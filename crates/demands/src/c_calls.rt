@@ -8,7 +8,7 @@ pub fn c_solve_as_promised(
     moves: &mut [u16],
     allowance: u16,
 ) -> u64
-    ensures { CSolvePromise file.now allowance (record { marks = marks.entry.now; blocks = blocks.old; moves = moves.old }) (record { value = result; rows = record { marks = marks.exit.now; blocks = blocks.new; moves = moves.new } }) }
+    ensures { CSolvePromise file.now allowance (record { marks = marks.old; blocks = blocks.old; moves = moves.old }) (record { value = result; rows = record { marks = marks.new; blocks = blocks.new; moves = moves.new } }) }
 {
     hvoyanur_c::hvoyanur_solve(file, marks, blocks, moves, allowance)
 }

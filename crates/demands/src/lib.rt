@@ -28,7 +28,7 @@ pub fn solve_as_promised(
     blocks: &mut [u16],
     moves: &mut [u16],
 ) -> Verdict
-    ensures { SolvePromise file.now allowance (record { marks = marks.entry.now; blocks = blocks.old; moves = moves.old }) (record { answer = result; rows = record { marks = marks.exit.now; blocks = blocks.new; moves = moves.new } }) }
+    ensures { SolvePromise file.now allowance (record { marks = marks.old; blocks = blocks.old; moves = moves.old }) (record { answer = result; rows = record { marks = marks.new; blocks = blocks.new; moves = moves.new } }) }
 {
     solver::solve(file, allowance, marks, blocks, moves)
 }
@@ -57,7 +57,7 @@ fn solve_written(
     moves: &mut [u16],
 ) -> Verdict
     requires { count ≤ length out.now }
-    ensures { record { answer = result; rows = record { marks = marks.exit.now; blocks = blocks.new; moves = moves.new } } ≡ solved (take count out.now) allowance (record { marks = marks.entry.now; blocks = blocks.old; moves = moves.old }) }
+    ensures { record { answer = result; rows = record { marks = marks.new; blocks = blocks.new; moves = moves.new } } ≡ solved (take count out.now) allowance (record { marks = marks.old; blocks = blocks.old; moves = moves.old }) }
 {
     solver::solve(&out[..count], allowance, marks, blocks, moves)
 }
@@ -74,7 +74,7 @@ pub fn solve_exchanged_as_promised(
     exchanged_blocks: &mut [u16],
     exchanged_moves: &mut [u16],
 ) -> BothVerdicts
-    ensures { ExchangedSolvePromise file.now allowance (record { marks = marks.entry.now; blocks = blocks.old; moves = moves.old }) (record { answer = result.file; rows = record { marks = marks.exit.now; blocks = blocks.new; moves = moves.new } }) out.old out.new (record { marks = exchanged_marks.old; blocks = exchanged_blocks.old; moves = exchanged_moves.old }) (record { answer = result.exchanged; rows = record { marks = exchanged_marks.new; blocks = exchanged_blocks.new; moves = exchanged_moves.new } }) }
+    ensures { ExchangedSolvePromise file.now allowance (record { marks = marks.old; blocks = blocks.old; moves = moves.old }) (record { answer = result.file; rows = record { marks = marks.new; blocks = blocks.new; moves = moves.new } }) out.old out.new (record { marks = exchanged_marks.old; blocks = exchanged_blocks.old; moves = exchanged_moves.old }) (record { answer = result.exchanged; rows = record { marks = exchanged_marks.new; blocks = exchanged_blocks.new; moves = exchanged_moves.new } }) }
 {
     exchange::exchange(file, out);
     let verdict = solver::solve(file, allowance, marks, blocks, moves);
