@@ -1,8 +1,7 @@
 // Reading the lines of a sheet of cases, for the programs that run one.
 #![tactic(auto)]
 
-ghost use Rattle.std.specs.Prelude.{◌*◌, ◌≤◌, ◌<◌, length};
-ghost use Rattle.io.specs.Counts.{IsPrefixLen};
+ghost use Rattle.std.specs.Prelude.{◌*◌, ◌≡◌, ◌≤◌, ◌<◌, length, take};
 
 // A number that stands in a line, and the place behind the space that ends it.
 #[derive(Drop)]
@@ -28,7 +27,8 @@ pub fn find(text: &[u8], from: usize, wanted: u8) -> usize
 
 // The size itself, or the length of `room` where that is less. With what it ensures, `&room[..r]` is proved with no proof file.
 pub fn fitting(size: usize, room: &[u8]) -> usize
-    ensures { IsPrefixLen result room.now }
+    ensures in_bounds { result ≤ length room.now }
+    ensures taken { result ≡ length (take result room.now) }
 {
     if size < room.len() { size } else { room.len() }
 }
