@@ -12,7 +12,7 @@ use rows::sets;
 
 // How a run came out: the splits, and the rows of its last round: the pass in which each state entered what the hunting
 // side surely brings about, and what it may.
-#[derive(Drop)]
+#[derive(Clone, Copy)]
 pub struct Ran {
     pub splits: u16,
     pub lower: [u16; Game::MAX_STATES],
