@@ -4,7 +4,7 @@
 ghost use Rattle.std.specs.Prelude.{◌*◌, ◌≡◌, ◌≤◌, ◌<◌, length, take};
 
 // A number that stands in a line, and the place behind the space that ends it.
-#[derive(Drop)]
+#[derive(Clone, Copy)]
 pub struct Numeral {
     pub value: u16,
     pub next: usize,
