@@ -12,21 +12,21 @@ use game::{BlockNo, Game, StateNo};
 pub mod plain;
 
 // What is said of a file: it is accepted, or it gets the refusal of this number, 2 to 11.
-#[derive(Drop)]
+#[derive(Clone, Copy)]
 pub enum Answer {
     Accepted,
     Refused(u8),
 }
 
 // The answer with the game of the file beside it. Beside a refusal stands the empty game.
-#[derive(Drop)]
+#[derive(Clone, Copy)]
 pub struct Decoded {
     pub answer: Answer,
     pub game: Game,
 }
 
 // The rows that the state records say.
-#[derive(Drop)]
+#[derive(Clone, Copy)]
 struct StateRows {
     turn: [u8; Game::MAX_STATES],
     marks: [u8; Game::MAX_STATES],
@@ -34,7 +34,7 @@ struct StateRows {
 }
 
 // The rows that the move records say.
-#[derive(Drop)]
+#[derive(Clone, Copy)]
 struct MoveRows {
     from: [StateNo; Game::MAX_MOVES],
     to: [StateNo; Game::MAX_MOVES],

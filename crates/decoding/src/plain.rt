@@ -1,7 +1,7 @@
 // The records of a sound file, read into rows of plain numbers: the one place where such rows are made.
 ghost use Rattle.std.specs.Prelude.{◌≡◌, ◌≤◌, length};
 ghost use Rattle.game.specs.Rows.{fill};
-ghost use Rattle.file.specs.Layout.{states, moves, turn as turn_of, marks as marksOf, block as block_of, from as fromOf, to as toOf};
+ghost use Rattle.file.specs.Layout.{states, moves, turn as turn_of, marks as marks_of, block as block_of, from as from_of, to as to_of};
 ghost use Rattle.file.specs.Sound.{Sound};
 
 use file::{move_at, number_at};
@@ -10,7 +10,7 @@ use file::{move_at, number_at};
 pub fn plain_states(file: &[u8], n: usize, turn: &mut [u8], marks: &mut [u8], block: &mut [u16])
     requires { (n ≡ states file.now) × Sound file.now × (n ≤ length turn.old) × (n ≤ length marks.old) × (n ≤ length block.old) }
     ensures turn { turn.new ≡ fill n (turn_of file.now) turn.old }
-    ensures marks { marks.new ≡ fill n (marksOf file.now) marks.old }
+    ensures marks { marks.new ≡ fill n (marks_of file.now) marks.old }
     ensures block { block.new ≡ fill n (block_of file.now) block.old }
 {
     let mut s: usize = 0;
@@ -26,8 +26,8 @@ pub fn plain_states(file: &[u8], n: usize, turn: &mut [u8], marks: &mut [u8], bl
 // The numbers of the states that each move leads from and to.
 pub fn plain_moves(file: &[u8], n: usize, m: usize, from: &mut [u16], to: &mut [u16])
     requires { (n ≡ states file.now) × (m ≡ moves file.now) × Sound file.now × (m ≤ length from.old) × (m ≤ length to.old) }
-    ensures from { from.new ≡ fill m (fromOf file.now) from.old }
-    ensures to { to.new ≡ fill m (toOf file.now) to.old }
+    ensures from { from.new ≡ fill m (from_of file.now) from.old }
+    ensures to { to.new ≡ fill m (to_of file.now) to.old }
 {
     let mut k: usize = 0;
     while k < m {

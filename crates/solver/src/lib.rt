@@ -84,8 +84,8 @@ fn hand_back(
     moves: &mut [u16],
 ) -> Verdict
     requires finished { (g : Game) × Finished g n m objective turn.now starts.now from.now to.now block.now lower.now upper.now }
-    requires max_states_in_bounds { (max_states ≤ length marks.old) × (max_states ≤ length blocks.old) × (max_states ≤ length moves.old) }
-    ensures { (g : Game) → Finished g n m objective turn.now starts.now from.now to.now block.now lower.now upper.now → HandedBack (record { splits = splits; last = g }) (record { marks = marks.entry.now; blocks = blocks.old; moves = moves.old }) result (record { marks = marks.exit.now; blocks = blocks.new; moves = moves.new }) }
+    requires room { (max_states ≤ length marks.old) × (max_states ≤ length blocks.old) × (max_states ≤ length moves.old) }
+    ensures { (g : Game) → Finished g n m objective turn.now starts.now from.now to.now block.now lower.now upper.now → HandedBack (record { splits = splits; last = g }) (record { marks = marks.old; blocks = blocks.old; moves = moves.old }) result (record { marks = marks.new; blocks = blocks.new; moves = moves.new }) }
 {
     let worked = written::mark_row(n, objective, lower, upper);
     let decision = decide(n, starts, &worked);
@@ -118,8 +118,8 @@ fn run_and_hand_back(
     moves: &mut [u16],
 ) -> Verdict
     requires present { (g : Game) × Present g side n m objective turn.now starts.now from.now to.now last.now before.now need.now first.now prey.now block.old }
-    requires max_states_in_bounds { (max_states ≤ length marks.old) × (max_states ≤ length blocks.old) × (max_states ≤ length moves.old) }
-    ensures { (g : Game) → Present g side n m objective turn.now starts.now from.now to.now last.now before.now need.now first.now prey.now block.old → HandedBack (run lowest_first allowance g) (record { marks = marks.entry.now; blocks = blocks.old; moves = moves.old }) result (record { marks = marks.exit.now; blocks = blocks.new; moves = moves.new }) }
+    requires room { (max_states ≤ length marks.old) × (max_states ≤ length blocks.old) × (max_states ≤ length moves.old) }
+    ensures { (g : Game) → Present g side n m objective turn.now starts.now from.now to.now last.now before.now need.now first.now prey.now block.old → HandedBack (run lowest_first allowance g) (record { marks = marks.old; blocks = blocks.old; moves = moves.old }) result (record { marks = marks.new; blocks = blocks.new; moves = moves.new }) }
 {
     let ran = outcome::run_rounds(
         n, m, objective, side, allowance, turn, starts, from, to, last, before, need, first, prey,
@@ -151,8 +151,8 @@ fn solve_rows(
     moves: &mut [u16],
 ) -> Verdict
     requires apart { (g : Game) × Apart g side n m objective turn.now starts.now from.now to.now prey.now block.old }
-    requires max_states_in_bounds { (max_states ≤ length marks.old) × (max_states ≤ length blocks.old) × (max_states ≤ length moves.old) }
-    ensures { (g : Game) → Apart g side n m objective turn.now starts.now from.now to.now prey.now block.old → HandedBack (run lowest_first allowance g) (record { marks = marks.entry.now; blocks = blocks.old; moves = moves.old }) result (record { marks = marks.exit.now; blocks = blocks.new; moves = moves.new }) }
+    requires room { (max_states ≤ length marks.old) × (max_states ≤ length blocks.old) × (max_states ≤ length moves.old) }
+    ensures { (g : Game) → Apart g side n m objective turn.now starts.now from.now to.now prey.now block.old → HandedBack (run lowest_first allowance g) (record { marks = marks.old; blocks = blocks.old; moves = moves.old }) result (record { marks = marks.new; blocks = blocks.new; moves = moves.new }) }
 {
     let mut last = [0u16; Game::MAX_STATES];
     let mut before = [0u16; Game::MAX_MOVES];
@@ -177,9 +177,9 @@ fn solve_game(
     blocks: &mut [u16],
     moves: &mut [u16],
 ) -> Verdict
-    requires file_value { refusal file.now ≡ 0 }
-    requires max_states_in_bounds { (max_states ≤ length marks.old) × (max_states ≤ length blocks.old) × (max_states ≤ length moves.old) }
-    ensures { HandedBack (run_of file.now allowance) (record { marks = marks.entry.now; blocks = blocks.old; moves = moves.old }) result (record { marks = marks.exit.now; blocks = blocks.new; moves = moves.new }) }
+    requires accepted { refusal file.now ≡ 0 }
+    requires room { (max_states ≤ length marks.old) × (max_states ≤ length blocks.old) × (max_states ≤ length moves.old) }
+    ensures { HandedBack (run_of file.now allowance) (record { marks = marks.old; blocks = blocks.old; moves = moves.old }) result (record { marks = marks.new; blocks = blocks.new; moves = moves.new }) }
 {
     let n = number_at(file, 4) as usize;
     let m = number_at(file, 6) as usize;
@@ -208,7 +208,7 @@ pub fn solve(
     blocks: &mut [u16],
     moves: &mut [u16],
 ) -> Verdict
-    ensures { record { answer = result; rows = record { marks = marks.exit.now; blocks = blocks.new; moves = moves.new } } ≡ solved file.now allowance (record { marks = marks.entry.now; blocks = blocks.old; moves = moves.old }) }
+    ensures { record { answer = result; rows = record { marks = marks.new; blocks = blocks.new; moves = moves.new } } ≡ solved file.now allowance (record { marks = marks.old; blocks = blocks.old; moves = moves.old }) }
 {
     if marks.len() < Game::MAX_STATES {
         return Verdict::Refused(1);

@@ -87,7 +87,7 @@ fn winner_row(
     winner: u8,
 ) -> [u16; Game::MAX_STATES]
     requires planning { (g : Game) × Planning g m objective turn.now from.now to.now lower.now upper.now }
-    requires t { T (known_turn winner) }
+    requires known { T (known_turn winner) }
     ensures { (g : Game) → Planning g m objective turn.now from.now to.now lower.now upper.now → (s : ℕ) → s < g.states → get_or result s 0 ≡ winner_rule g (side_of winner) s }
 {
     let hunter = rounds::hunting_side(objective);

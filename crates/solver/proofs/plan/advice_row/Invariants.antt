@@ -1,0 +1,20 @@
+-- `advice_row` meets its contract.
+use native.Mathlib.Omega.{arith}
+use mathlib.Core.Path.{◌≡◌, refl, sym, ◌∙◌}
+use Prim.Native.Nat.{◌-◌, ◌≤◌, ◌<◌}
+use lib.ListN.{get_or}
+use Rattle.game.specs.Limits.{max_states}
+use Rattle.game.specs.Rows.{blank, Cells}
+use Rattle.game.proofs.Rows.{cells_store, blank-length, blank_at}
+use Rattle.chains.proofs.Filling.{places}
+use Rattle.arena.specs.Plan.{no_move}
+use Rattle.solver.specs.Work.{lowest_good}
+use Rattle.solver.proofs.Advice.{good_none, good_more, good_same}
+use Rattle.solver.proofs.plan.advice_row.Given as goal
+
+abbrev pub invariant-loop-k : goal.invariant-loop-k
+invariant-loop-k l =
+    (l.k ≤ l.m) × Cells max_states l.out (lowest_good l.side l.chase (λ s. get_or l.turn s 0) (λ j. get_or l.from j 0) (λ j. get_or l.to j 0) (λ s. get_or l.row s 0) l.k)
+
+abbrev pub decreases-loop-k : goal.decreases-loop-k
+decreases-loop-k l = l.m - l.k

@@ -1,0 +1,21 @@
+-- `mark_row` meets its contract.
+use native.Mathlib.Omega.{arith}
+use mathlib.Core.Path.{◌≡◌}
+use Prim.Native.Nat.{◌-◌, ◌≤◌}
+use lib.ListN.{get_or}
+use Rattle.game.specs.Limits.{max_states}
+use Rattle.game.specs.Rows.{fill, blank, zeros}
+use Rattle.game.proofs.Small.{sweep}
+use Rattle.game.proofs.Rows.{fill_none, fill_store, fill_done, zeros-length}
+use Rattle.solver.specs.Work.{mark_no}
+use Rattle.solver.proofs.written.mark_row.Goals as goal
+
+pub loop-s-init : goal.loop-s-init
+unfolding blank
+loop-s-init c = (search sweep, fill_none _ (zeros max_states))
+
+pub loop-s-preserved : goal.loop-s-preserved
+loop-s-preserved c = (search sweep, fill_store _ _ _ (omega (arith, zeros-length max_states)) _ c.loop-s.invariant.1 _ c.mark_no.ensures)
+
+pub returns : goal.returns
+returns c = fill_done _ _ _ _ _ c.loop-s.invariant.1 (omega arith) (omega arith)

@@ -1,0 +1,15 @@
+-- `write_row` meets its contract.
+use native.Mathlib.Omega.{arith}
+use mathlib.Core.Path.{◌≡◌, refl}
+use Prim.Native.Nat.{◌-◌, ◌≤◌}
+use lib.ListN.{length, get_or}
+use Rattle.game.specs.Rows.{fill}
+use Rattle.game.proofs.Rows.{walk, fill_none, fill_store, fill_done}
+use Rattle.solver.proofs.written.write_row.Given as goal
+
+abbrev pub invariant-loop-s : goal.invariant-loop-s
+invariant-loop-s l =
+    (l.s ≤ l.n) × (l.out ≡ fill l.s (λ t. get_or l.values t 0) l.initial.out) × (length l.out ≡ length l.initial.out)
+
+abbrev pub decreases-loop-s : goal.decreases-loop-s
+decreases-loop-s l = l.n - l.s
