@@ -2,59 +2,66 @@
 // the last one target; each state has an equal share of the moves, to 0, 1, 2 and so on.
 ghost use Rattle.std.specs.Prelude.{◌<◌};
 
-use crate::{print, show};
-use sheet_lines::fitting;
+use crate::show;
+use sheet_lines::{fitting, large_buffer};
+use std::io;
+use std::io::Write;
 
-pub fn long_files() {
-    of_size(b"one state, one move", 1, 1);
-    of_size(b"512 states, 512 moves", 512, 512);
-    of_size(b"512 states, 511 moves", 512, 511);
-    of_size(b"513 states, 513 moves", 513, 513);
-    of_size(b"64 states, 4096 moves", 64, 4096);
-    of_size(b"241 states, 4097 moves", 241, 4097);
-    of_size(b"512 states, 4096 moves", 512, 4096);
+pub fn long_files<W: Write>(to: &mut W) -> io::Result<()> {
+    of_size(to, b"one state, one move", 1, 1)?;
+    of_size(to, b"512 states, 512 moves", 512, 512)?;
+    of_size(to, b"512 states, 511 moves", 512, 511)?;
+    of_size(to, b"513 states, 513 moves", 513, 513)?;
+    of_size(to, b"64 states, 4096 moves", 64, 4096)?;
+    of_size(to, b"241 states, 4097 moves", 241, 4097)?;
+    of_size(to, b"512 states, 4096 moves", 512, 4096)
 }
 
 // The largest file that is accepted has 36,874 bytes. Its last state stands at 4,098 and its last move at 36,866.
-pub fn largest_files() {
-    of_length(b"largest file cut by one byte", 36873);
-    of_length(b"largest file and one byte more", 36875);
-    with_number(b"largest file, wrong kind in the last move", 36868, 2);
-    with_number(b"largest file, turn 3 in the last state", 4102, 515);
-    with_number(b"largest file, block 512 in the last state", 4104, 512);
-    with_number(b"largest file, block 255 in the last state", 4104, 255);
-    with_number(b"largest file, block 510 in the last state", 4104, 510);
-    with_number(b"largest file, last move to 512", 36872, 512);
-    with_number(b"largest file, last move repeats the one before", 36872, 6);
-    with_number(b"largest file, last move to 511", 36872, 511);
-    with_number(b"largest file, no start", 14, 1);
+pub fn largest_files<W: Write>(to: &mut W) -> io::Result<()> {
+    of_length(to, b"largest file cut by one byte", 36873)?;
+    of_length(to, b"largest file and one byte more", 36875)?;
+    with_number(to, b"largest file, wrong kind in the last move", 36868, 2)?;
+    with_number(to, b"largest file, turn 3 in the last state", 4102, 515)?;
+    with_number(to, b"largest file, block 512 in the last state", 4104, 512)?;
+    with_number(to, b"largest file, block 255 in the last state", 4104, 255)?;
+    with_number(to, b"largest file, block 510 in the last state", 4104, 510)?;
+    with_number(to, b"largest file, last move to 512", 36872, 512)?;
+    with_number(
+        to,
+        b"largest file, last move repeats the one before",
+        36872,
+        6,
+    )?;
+    with_number(to, b"largest file, last move to 511", 36872, 511)?;
+    with_number(to, b"largest file, no start", 14, 1)
 }
 
-fn of_size(name: &[u8], states: u16, moves: u16) {
-    let mut file = io::large_buffer();
+fn of_size<W: Write>(to: &mut W, name: &[u8], states: u16, moves: u16) -> io::Result<()> {
+    let mut file = large_buffer();
     records(&mut file, states, moves);
     let length = fitting(10 + 8 * (states as usize) + 8 * (moves as usize), &file);
-    print::words(name);
-    show::answers(&file[..length]);
+    to.write_all(name)?;
+    show::answers(to, &file[..length])
 }
 
 // The largest file at another length: what comes after it is 0.
-fn of_length(name: &[u8], size: usize) {
-    let mut file = io::large_buffer();
+fn of_length<W: Write>(to: &mut W, name: &[u8], size: usize) -> io::Result<()> {
+    let mut file = large_buffer();
     records(&mut file, 512, 4096);
     let length = fitting(size, &file);
-    print::words(name);
-    show::answers(&file[..length]);
+    to.write_all(name)?;
+    show::answers(to, &file[..length])
 }
 
 // The largest file with another number in two of its bytes.
-fn with_number(name: &[u8], at: u32, value: u16) {
-    let mut file = io::large_buffer();
+fn with_number<W: Write>(to: &mut W, name: &[u8], at: u32, value: u16) -> io::Result<()> {
+    let mut file = large_buffer();
     records(&mut file, 512, 4096);
     store(&mut file, at, value);
     let length = fitting(36874, &file);
-    print::words(name);
-    show::answers(&file[..length]);
+    to.write_all(name)?;
+    show::answers(to, &file[..length])
 }
 
 // Writes all records of a file.

@@ -8,19 +8,18 @@ mod print;
 mod sheet;
 mod show;
 
-ghost use Rattle.std.specs.Prelude.{◌≡◌, length};
+use std::io;
+use std::io::{BufWriter, Read, Write};
 
-// Room for the whole sheet. The `ensures` gives the length alone, which is what lending the array asks for.
-fn sheet_room() -> [u8; 262144]
-    ensures { 262144 ≡ length result }
-{
-    [0; 262144]
-}
+// Room for the whole sheet. A longer one is cut here.
+const MOST_BYTES: u64 = 262144;
 
-fn main() {
-    let mut room = sheet_room();
-    let count = io::read_full(libc::STDIN_FILENO, &mut room);
-    sheet::each_line(&room[..count]);
-    build::long_files();
-    build::largest_files();
+fn main(rt: HostRuntime) -> io::Result<()> {
+    let mut text = Vec::new(rt.alloc());
+    rt.reader().take(MOST_BYTES).read_to_end(&mut text)?;
+    let mut to = BufWriter::new(rt.alloc(), io::writer(&rt))?;
+    sheet::each_line(&mut to, &text)?;
+    build::long_files(&mut to)?;
+    build::largest_files(&mut to)?;
+    to.flush()
 }

@@ -1,28 +1,20 @@
-// Words, numbers and bytes on standard output.
+// Refusals and bytes, as they are printed.
 ghost use Rattle.std.specs.Prelude.{◌<◌};
 
-use libc::STDOUT_FILENO;
-
-pub fn words(text: &[u8]) {
-    io::write_all(STDOUT_FILENO, text);
-}
-
-pub fn number(value: usize) {
-    io::print_decimal(STDOUT_FILENO, value as u64);
-}
+use std::io;
+use std::io::Write;
 
 // A refusal, as the printing program words it.
-pub fn refusal(value: u8) {
-    words(b"REFUSED ");
-    number(value as usize);
+pub fn refusal<W: Write>(to: &mut W, value: u8) -> io::Result<()> {
+    write!(to, "REFUSED {value}")
 }
 
 // Up to 512 bytes are printed in full, more by their sums.
-pub fn bytes(row: &[u8]) {
+pub fn bytes<W: Write>(to: &mut W, row: &[u8]) -> io::Result<()> {
     if row.len() <= 512 {
-        hexadecimal(row);
+        hexadecimal(to, row)
     } else {
-        sums(row);
+        sums(to, row)
     }
 }
 
@@ -32,16 +24,22 @@ fn wide(byte: u8) -> u64
     byte as u64
 }
 
-fn hexadecimal(row: &[u8]) {
+fn hexadecimal<W: Write>(to: &mut W, row: &[u8]) -> io::Result<()> {
     let mut at = 0;
     while at < row.len() {
-        io::print_hex(STDOUT_FILENO, wide(row[at]), 2);
+        byte(to, row[at])?;
         at += 1;
     }
+    Ok(())
+}
+
+// Two hexadecimal digits.
+fn byte<W: Write>(to: &mut W, value: u8) -> io::Result<()> {
+    write!(to, "{value:02x}")
 }
 
 // The sum of the bytes, and the sum of all the sums on the way, both as remainders by 65521.
-fn sums(row: &[u8]) {
+fn sums<W: Write>(to: &mut W, row: &[u8]) -> io::Result<()> {
     let mut plain: u64 = 0;
     let mut weighted: u64 = 0;
     let mut at = 0;
@@ -50,12 +48,9 @@ fn sums(row: &[u8]) {
         weighted = (weighted + plain) % 65521;
         at += 1;
     }
-    two_sums(plain, weighted);
+    two_sums(to, plain, weighted)
 }
 
-fn two_sums(plain: u64, weighted: u64) {
-    words(b"sums ");
-    io::print_decimal(STDOUT_FILENO, plain);
-    words(b" ");
-    io::print_decimal(STDOUT_FILENO, weighted);
+fn two_sums<W: Write>(to: &mut W, plain: u64, weighted: u64) -> io::Result<()> {
+    write!(to, "sums {plain} {weighted}")
 }

@@ -1,22 +1,25 @@
 // The sheet: a line for each case has its name, a colon, a space, and the file's bytes as hexadecimal digits.
-use crate::{print, show};
-use sheet_lines::{find, fitting, read_digits};
+use crate::show;
+use sheet_lines::{find, fitting, large_buffer, read_digits};
+use std::io;
+use std::io::Write;
 
-pub fn each_line(text: &[u8]) {
+pub fn each_line<W: Write>(to: &mut W, text: &[u8]) -> io::Result<()> {
     let mut at = 0;
     while at < text.len() {
         let end = find(text, at, b'\n');
-        run_line(&text[at..end]);
+        run_line(to, &text[at..end])?;
         at = end + 1;
     }
+    Ok(())
 }
 
-fn run_line(line: &[u8]) {
+fn run_line<W: Write>(to: &mut W, line: &[u8]) -> io::Result<()> {
     let colon = fitting(find(line, 0, b':'), line);
-    print::words(&line[..colon]);
+    to.write_all(&line[..colon])?;
     let digits = fitting(colon + 2, line);
-    let mut file = io::large_buffer();
+    let mut file = large_buffer();
     let count = read_digits(&line[digits..], &mut file);
     let length = fitting(count, &file);
-    show::answers(&file[..length]);
+    show::answers(to, &file[..length])
 }

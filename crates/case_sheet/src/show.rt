@@ -1,99 +1,102 @@
 // The rest of a case's line: what the decoder and the exchange make of a file.
 use crate::print;
-use sheet_lines::fitting;
+use sheet_lines::{fitting, large_buffer};
+use std::io;
+use std::io::Write;
 
 // What every output holds before a call. A place that holds it afterwards counts as untouched.
 const BLANK: u8 = 170;
 
-pub fn answers(file: &[u8]) {
+pub fn answers<W: Write>(to: &mut W, file: &[u8]) -> io::Result<()> {
     let decoded = decoding::decode(file);
     let answer = decoded.answer;
     match answer {
         decoding::Answer::Accepted => {
             let game = decoded.game;
-            accepted(file, game.states, game.moves);
+            accepted(to, file, game.states, game.moves)?;
         }
         decoding::Answer::Refused(number) => {
-            refused(file, number);
+            refused(to, file, number)?;
         }
     }
-    print::words(b"\n");
+    writeln!(to)
 }
 
 // A refused file: the exchange refuses it likewise, into an output with places to spare and into one with none.
-fn refused(file: &[u8], number: u8) {
-    print::words(b": ");
-    print::refusal(number);
-    print::words(b"; exchange ");
-    untouched(file, file.len() + 64);
-    print::words(b"; into no room ");
-    untouched(file, 0);
+fn refused<W: Write>(to: &mut W, file: &[u8], number: u8) -> io::Result<()> {
+    write!(to, ": ")?;
+    print::refusal(to, number)?;
+    write!(to, "; exchange ")?;
+    untouched(to, file, file.len() + 64)?;
+    write!(to, "; into no room ")?;
+    untouched(to, file, 0)
 }
 
 // An accepted file.
-fn accepted(file: &[u8], states: usize, moves: usize) {
-    print::words(b": accepted, ");
-    print::number(states);
-    print::words(b" states, ");
-    print::number(moves);
-    print::words(b" moves; exchange ");
-    let mut room = io::large_buffer();
+fn accepted<W: Write>(to: &mut W, file: &[u8], states: usize, moves: usize) -> io::Result<()> {
+    write!(to, ": accepted, {states} states, {moves} moves; exchange ")?;
+    let mut room = large_buffer();
     let size = fitting(file.len(), &room);
-    exchanges(file, &mut room[..size]);
+    exchanges(to, file, &mut room[..size])
 }
 
 // The exchange of an accepted file into an output just long enough, back from there, into one a place too short, and into one
 // five places longer. `exchanged` is as long as `file`.
-fn exchanges(file: &[u8], exchanged: &mut [u8]) {
+fn exchanges<W: Write>(to: &mut W, file: &[u8], exchanged: &mut [u8]) -> io::Result<()> {
     blank(exchanged);
-    written(exchange::exchange(file, exchanged));
-    print::words(b" ");
-    print::bytes(exchanged);
-    print::words(b"; again ");
-    against(exchanged, file, 0);
-    print::words(b"; one short ");
-    untouched(file, one_less(file.len()));
-    print::words(b"; longer ");
-    against(file, exchanged, 5);
+    written(to, exchange::exchange(file, exchanged))?;
+    write!(to, " ")?;
+    print::bytes(to, exchanged)?;
+    write!(to, "; again ")?;
+    against(to, exchanged, file, 0)?;
+    write!(to, "; one short ")?;
+    untouched(to, file, one_less(file.len()))?;
+    write!(to, "; longer ")?;
+    against(to, file, exchanged, 5)
 }
 
 // Exchanges `file` into an output with `spare` places more than `expected`, and prints the answer, whether the output begins with
 // `expected`, and whether the rest is untouched.
-fn against(file: &[u8], expected: &[u8], spare: u8) {
-    let mut room = io::large_buffer();
+fn against<W: Write>(to: &mut W, file: &[u8], expected: &[u8], spare: u8) -> io::Result<()> {
+    let mut room = large_buffer();
     let size = fitting(expected.len() + spare as usize, &room);
-    against_in(file, expected, &mut room[..size]);
+    against_in(to, file, expected, &mut room[..size])
 }
 
-fn against_in(file: &[u8], expected: &[u8], out: &mut [u8]) {
+fn against_in<W: Write>(
+    to: &mut W,
+    file: &[u8],
+    expected: &[u8],
+    out: &mut [u8],
+) -> io::Result<()> {
     blank(out);
-    written(exchange::exchange(file, out));
+    written(to, exchange::exchange(file, out))?;
     if begins(out, expected) {
-        print::words(b", same");
+        write!(to, ", same")?;
     } else {
-        print::words(b", DIFFERENT");
+        write!(to, ", DIFFERENT")?;
     }
     if is_blank(out, expected.len()) {
-        print::words(b", rest untouched");
+        write!(to, ", rest untouched")
     } else {
-        print::words(b", rest TOUCHED");
+        write!(to, ", rest TOUCHED")
     }
 }
 
 // Exchanges `file` into an output of this size, and prints the answer and whether the output is untouched.
-fn untouched(file: &[u8], size: usize) {
-    let mut room = io::large_buffer();
+fn untouched<W: Write>(to: &mut W, file: &[u8], size: usize) -> io::Result<()> {
+    let mut room = large_buffer();
     let size = fitting(size, &room);
-    untouched_in(file, &mut room[..size]);
+    untouched_in(to, file, &mut room[..size])
 }
 
-fn untouched_in(file: &[u8], out: &mut [u8]) {
+fn untouched_in<W: Write>(to: &mut W, file: &[u8], out: &mut [u8]) -> io::Result<()> {
     blank(out);
-    written(exchange::exchange(file, out));
+    written(to, exchange::exchange(file, out))?;
     if is_blank(out, 0) {
-        print::words(b", untouched");
+        write!(to, ", untouched")
     } else {
-        print::words(b", TOUCHED");
+        write!(to, ", TOUCHED")
     }
 }
 
@@ -101,14 +104,10 @@ fn one_less(size: usize) -> usize {
     if size == 0 { 0 } else { size - 1 }
 }
 
-fn written(answer: exchange::Exchanged) {
+fn written<W: Write>(to: &mut W, answer: exchange::Exchanged) -> io::Result<()> {
     match answer {
-        exchange::Exchanged::Written(length) => {
-            print::number(length);
-        }
-        exchange::Exchanged::Refused(number) => {
-            print::refusal(number);
-        }
+        exchange::Exchanged::Written(length) => write!(to, "{length}"),
+        exchange::Exchanged::Refused(number) => print::refusal(to, number),
     }
 }
 

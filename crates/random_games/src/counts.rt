@@ -4,7 +4,8 @@ ghost use Rattle.std.specs.Prelude.{◌≡◌, length};
 use crate::shape::Shape;
 use crate::sheet::{Sheet, head, how_many, one_if};
 use crate::{examine, follow, sheet};
-use libc::STDOUT_FILENO;
+use std::io;
+use std::io::Write;
 
 // The places of the counts. The first 7 are the games of each family. Then comes what the games are like.
 const GAMES: usize = 7;
@@ -52,14 +53,21 @@ pub fn room() -> [u64; 45]
 }
 
 // Counts a game, whose sheet is `one`; the exchanged game's is `other`.
-pub fn count_game(counts: &mut [u64], shape: Shape, one: &Sheet, other: &Sheet) {
+pub fn count_game<W: Write>(
+    to: &mut W,
+    counts: &mut [u64],
+    shape: Shape,
+    one: &Sheet,
+    other: &Sheet,
+) -> io::Result<()> {
     let mut which = 0;
     while which < counts.len() {
         let amount = amount_of(which, shape, one, other);
         counts[which] = with_more(counts[which], which, amount);
-        report(which, amount, shape.game);
+        report(to, which, amount, shape.game)?;
         which += 1;
     }
+    Ok(())
 }
 
 fn with_more(count: u64, which: usize, amount: u16) -> u64 {
@@ -72,17 +80,15 @@ fn with_more(count: u64, which: usize, amount: u16) -> u64 {
 }
 
 // Names a check that failed and the game's number.
-fn report(which: usize, amount: u16, game: u64) {
+fn report<W: Write>(to: &mut W, which: usize, amount: u16, game: u64) -> io::Result<()> {
     if which < CHECKS {
-        return;
+        return Ok(());
     }
     if amount == 0 {
-        return;
+        return Ok(());
     }
-    io::write_all(STDOUT_FILENO, b"game ");
-    io::print_decimal(STDOUT_FILENO, game);
-    io::write_all(STDOUT_FILENO, b": ");
-    print_line(which, amount as u64);
+    write!(to, "game {game}: ")?;
+    print_line(to, which, amount as u64)
 }
 
 // What a game adds to a count.
@@ -135,23 +141,22 @@ fn amount_of_outcome(which: usize, one: &Sheet) -> u16 {
 }
 
 // One line for each count: its name and its number.
-pub fn print(counts: &[u64]) {
+pub fn print<W: Write>(to: &mut W, counts: &[u64]) -> io::Result<()> {
     let mut which = 0;
     while which < counts.len() {
-        print_line(which, counts[which]);
+        print_line(to, which, counts[which])?;
         which += 1;
     }
+    Ok(())
 }
 
-fn print_line(which: usize, count: u64) {
-    print_name(which);
-    io::write_all(STDOUT_FILENO, b" ");
-    io::print_decimal(STDOUT_FILENO, count);
-    io::write_all(STDOUT_FILENO, b"\n");
+fn print_line<W: Write>(to: &mut W, which: usize, count: u64) -> io::Result<()> {
+    print_name(to, which)?;
+    writeln!(to, " {count}")
 }
 
 // The names of the counts, in the order of their places.
-fn print_name(which: usize) {
+fn print_name<W: Write>(to: &mut W, which: usize) -> io::Result<()> {
     let names = b"tiny games;sparse games;dense games;wide games;chains;folded chains;full games;\
         games in all;games of reach;games with one start;games with an empty target;games with a full target;\
         games with one block for each of the marks;games with each state a block;states;moves;\
@@ -163,11 +168,11 @@ fn print_name(which: usize) {
         exchanges refused or of another length;exchanges that do not lead back;exchanged winners wrong;\
         exchanged verdicts wrong;exchanged splits wrong;exchanged blocks wrong;exchanged moves wrong;\
         exchanged marks wrong";
-    print_part(names, which);
+    print_part(to, names, which)
 }
 
 // Prints the part of this number; a semicolon ends each part but the last.
-fn print_part(text: &[u8], number: usize) {
+fn print_part<W: Write>(to: &mut W, text: &[u8], number: usize) -> io::Result<()> {
     let mut part: usize = 0;
     let mut at = 0;
     while at < text.len() {
@@ -175,8 +180,9 @@ fn print_part(text: &[u8], number: usize) {
         if text[at] == b';' {
             part = std::num::wrapping_add_usize(part, 1);
         } else if part == number {
-            io::write_all(STDOUT_FILENO, &text[at..next]);
+            to.write_all(&text[at..next])?;
         }
         at = next;
     }
+    Ok(())
 }

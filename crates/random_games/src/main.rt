@@ -16,36 +16,41 @@ mod swap;
 mod winners;
 
 use shape::Shape;
-use swap::fitting;
+use std::io;
+use std::io::{BufWriter, Write};
+use swap::{fitting, large_buffer};
 
-fn main() {
+fn main(rt: HostRuntime) -> io::Result<()> {
+    let mut to = BufWriter::new(rt.alloc(), io::writer(&rt))?;
     let mut counts = counts::room();
-    games_below(shape::GAMES, &mut counts);
-    counts::print(&counts);
+    games_below(&mut to, shape::GAMES, &mut counts)?;
+    counts::print(&mut to, &counts)?;
+    to.flush()
 }
 
-fn games_below(end: u64, counts: &mut [u64]) {
+fn games_below<W: Write>(to: &mut W, end: u64, counts: &mut [u64]) -> io::Result<()> {
     let mut game = 0;
     while game < end {
-        one_game(shape::shape_of(game), counts);
+        one_game(to, shape::shape_of(game), counts)?;
         game += 1;
     }
+    Ok(())
 }
 
-fn one_game(shape: Shape, counts: &mut [u64]) {
-    let mut file = io::large_buffer();
+fn one_game<W: Write>(to: &mut W, shape: Shape, counts: &mut [u64]) -> io::Result<()> {
+    let mut file = large_buffer();
     let length = fitting(make::write_file(shape, &mut file), &file);
-    play(&file[..length], shape, counts);
+    play(to, &file[..length], shape, counts)
 }
 
 // Solves and checks a game and the exchanged game, with the same allowance.
-fn play(file: &[u8], shape: Shape, counts: &mut [u64]) {
+fn play<W: Write>(to: &mut W, file: &[u8], shape: Shape, counts: &mut [u64]) -> io::Result<()> {
     let mut one = sheet::room();
     let mut other = sheet::room();
-    let mut exchanged = io::large_buffer();
+    let mut exchanged = large_buffer();
     run::fill(file, shape.allowance, &mut one);
     swap::exchange(file, &mut exchanged, &mut one);
     let length = fitting(file.len(), &exchanged);
     run::fill(&exchanged[..length], shape.allowance, &mut other);
-    counts::count_game(counts, shape, &one, &other);
+    counts::count_game(to, counts, shape, &one, &other)
 }

@@ -62,7 +62,7 @@ const WEAKNESS: u16 = 12;
 // side's, and 0 where the side is drawn for each state. `target` and `starts` are out of a thousand. States of the same marks are
 // parted into `colours` blocks; 0 makes each state a block. A chain runs down from the last state where `downward` is 1, and
 // `weakness`, out of a thousand, is how often the side that is hunted can step back in it.
-#[derive(Drop)]
+#[derive(Clone, Copy)]
 pub struct Shape {
     pub game: u64,
     pub family: u16,

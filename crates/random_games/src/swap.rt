@@ -1,5 +1,5 @@
 // The exchange of a file, and of the exchanged file.
-ghost use Rattle.io.specs.Counts.{IsPrefixLen};
+ghost use Rattle.std.specs.Prelude.{◌≡◌, ◌≤◌, length, take};
 
 use crate::sheet;
 use crate::sheet::{Sheet, one_if, put};
@@ -23,16 +23,25 @@ fn is_written(file: &[u8], out: &mut [u8]) -> bool {
 
 // Whether the exchange of the exchanged file begins with the bytes of the file.
 fn leads_back(exchanged: &[u8], file: &[u8]) -> bool {
-    let mut out = io::large_buffer();
+    let mut out = large_buffer();
     if !is_written(exchanged, &mut out) {
         return false;
     }
     begins(&out, file)
 }
 
+// 65,536 zeros, which hold any file that is accepted. The `ensures` gives only the length, which lending the array as a slice
+// needs.
+pub fn large_buffer() -> [u8; 65536]
+    ensures { 65536 ≡ length result }
+{
+    [0; 65536]
+}
+
 // The size itself, or the length of `room` where that is less.
 pub fn fitting(size: usize, room: &[u8]) -> usize
-    ensures { IsPrefixLen result room.now }
+    ensures in_bounds { result ≤ length room.now }
+    ensures taken { result ≡ length (take result room.now) }
 {
     if size < room.len() { size } else { room.len() }
 }

@@ -5,82 +5,60 @@ ghost use Rattle.std.specs.Prelude.{◌≤◌, ◌<◌};
 ghost use Rattle.game.specs.Limits.{max_states};
 
 use game::Game;
-use libc::STDOUT_FILENO;
 use solver::Verdict;
+use std::io;
+use std::io::Write;
 
 // No move.
 const NONE: u16 = 65535;
 
-fn words(text: &[u8]) {
-    io::write_all(STDOUT_FILENO, text);
-}
-
-fn number(value: u16) {
-    io::print_decimal(STDOUT_FILENO, value as u64);
-}
-
 // `verdict start splits`, or `REFUSED number`; answers whether there is a verdict.
-fn first_line(verdict: Verdict) -> bool {
+fn first_line<W: Write>(out: &mut W, verdict: Verdict) -> io::Result<bool> {
     match verdict {
         Verdict::Yes(start, splits) => {
-            words(b"YES ");
-            number(start.0);
-            words(b" ");
-            number(splits);
-            words(b"\n");
-            true
+            let named = start.0;
+            writeln!(out, "YES {named} {splits}")?;
+            Ok(true)
         }
         Verdict::No(splits) => {
-            words(b"NO - ");
-            number(splits);
-            words(b"\n");
-            true
+            writeln!(out, "NO - {splits}")?;
+            Ok(true)
         }
         Verdict::Open(splits) => {
-            words(b"OPEN - ");
-            number(splits);
-            words(b"\n");
-            true
+            writeln!(out, "OPEN - {splits}")?;
+            Ok(true)
         }
         Verdict::Refused(refusal) => {
-            words(b"REFUSED ");
-            number(refusal as u16);
-            words(b"\n");
-            false
+            writeln!(out, "REFUSED {refusal}")?;
+            Ok(false)
         }
     }
 }
 
-fn mark_word(mark: u16) {
+fn mark_word<W: Write>(out: &mut W, mark: u16) -> io::Result<()> {
     if mark == 2 {
-        words(b"sure");
-        return;
+        return write!(out, "sure");
     }
     if mark == 1 {
-        words(b"open");
-        return;
+        return write!(out, "open");
     }
-    words(b"never");
+    write!(out, "never")
 }
 
-fn move_word(to: u16) {
+fn move_word<W: Write>(out: &mut W, to: u16) -> io::Result<()> {
     if to == NONE {
-        words(b"-");
-        return;
+        return write!(out, "-");
     }
-    number(to);
+    write!(out, "{to}")
 }
 
 // `state mark block move`
-fn state_line(state: u16, mark: u16, block: u16, to: u16) {
-    number(state);
-    words(b" ");
-    mark_word(mark);
-    words(b" ");
-    number(block);
-    words(b" ");
-    move_word(to);
-    words(b"\n");
+fn state_line<W: Write>(out: &mut W, state: u16, mark: u16, block: u16, to: u16) -> io::Result<()> {
+    write!(out, "{state} ")?;
+    mark_word(out, mark)?;
+    write!(out, " {block} ")?;
+    move_word(out, to)?;
+    writeln!(out)
 }
 
 fn wide(byte: u8) -> usize
@@ -104,29 +82,32 @@ fn state_count(file: &[u8]) -> usize
 }
 
 // A line for each state.
-fn state_lines(
+fn state_lines<W: Write>(
+    out: &mut W,
     n: usize,
     marks: [u16; Game::MAX_STATES],
     blocks: [u16; Game::MAX_STATES],
     moves: [u16; Game::MAX_STATES],
-)
+) -> io::Result<()>
     requires { n ≤ max_states }
 {
     let mut s: usize = 0;
     while s < n {
-        state_line(s as u16, marks[s], blocks[s], moves[s]);
+        state_line(out, s as u16, marks[s], blocks[s], moves[s])?;
         s += 1;
     }
+    Ok(())
 }
 
-// Solves the game of the file and prints what 01's printing program prints.
-pub fn print_answer(file: &[u8], allowance: u16) {
+// Solves the game of the file, and prints the refusal or the verdict and a line for each state.
+pub fn print_answer<W: Write>(out: &mut W, file: &[u8], allowance: u16) -> io::Result<()> {
     let mut marks = [0u16; Game::MAX_STATES];
     let mut blocks = [0u16; Game::MAX_STATES];
     let mut moves = [0u16; Game::MAX_STATES];
     let verdict = solver::solve(file, allowance, &mut marks, &mut blocks, &mut moves);
-    if first_line(verdict) {
-        words(b"state mark block move\n");
-        state_lines(state_count(file), marks, blocks, moves);
+    if first_line(out, verdict)? {
+        writeln!(out, "state mark block move")?;
+        state_lines(out, state_count(file), marks, blocks, moves)?;
     }
+    Ok(())
 }

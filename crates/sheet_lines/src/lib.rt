@@ -1,11 +1,10 @@
 // Reading the lines of a sheet of cases, for the programs that run one.
 #![tactic(auto)]
 
-ghost use Rattle.std.specs.Prelude.{◌*◌, ◌≤◌, ◌<◌, length};
-ghost use Rattle.io.specs.Counts.{IsPrefixLen};
+ghost use Rattle.std.specs.Prelude.{◌*◌, ◌≡◌, ◌≤◌, ◌<◌, length, take};
 
 // A number that stands in a line, and the place behind the space that ends it.
-#[derive(Drop)]
+#[derive(Clone, Copy)]
 pub struct Numeral {
     pub value: u16,
     pub next: usize,
@@ -28,7 +27,8 @@ pub fn find(text: &[u8], from: usize, wanted: u8) -> usize
 
 // The size itself, or the length of `room` where that is less. With what it ensures, `&room[..r]` is proved with no proof file.
 pub fn fitting(size: usize, room: &[u8]) -> usize
-    ensures { IsPrefixLen result room.now }
+    ensures in_bounds { result ≤ length room.now }
+    ensures taken { result ≡ length (take result room.now) }
 {
     if size < room.len() { size } else { room.len() }
 }
@@ -91,4 +91,12 @@ fn digit(byte: u8) -> u8
         return byte - b'a' + 10;
     }
     0
+}
+
+// 65,536 zeros, which hold any file that is accepted. The `ensures` gives only the length, which lending the array as a slice
+// needs.
+pub fn large_buffer() -> [u8; 65536]
+    ensures { 65536 ≡ length result }
+{
+    [0; 65536]
 }

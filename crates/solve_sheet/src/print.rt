@@ -1,76 +1,57 @@
-// Words and numbers on standard output, as the printing program has them.
+// What the printing program prints of a verdict and of a state.
 use game::StateNo;
-use libc::STDOUT_FILENO;
 use solver::Verdict;
-
-pub fn words(text: &[u8]) {
-    io::write_all(STDOUT_FILENO, text);
-}
-
-fn number(value: u16) {
-    io::print_decimal(STDOUT_FILENO, value as u64);
-}
+use std::io;
+use std::io::Write;
 
 // The first line, and the heading where there is no refusal.
-pub fn verdict(answer: Verdict) {
+pub fn verdict<W: Write>(to: &mut W, answer: Verdict) -> io::Result<()> {
     match answer {
-        Verdict::Yes(start, splits) => {
-            yes(start, splits);
-        }
-        Verdict::No(splits) => {
-            without_start(b"NO", splits);
-        }
-        Verdict::Open(splits) => {
-            without_start(b"OPEN", splits);
-        }
-        Verdict::Refused(reason) => {
-            words(b"REFUSED ");
-            number(reason as u16);
-            words(b"\n");
-        }
+        Verdict::Yes(start, splits) => yes(to, start, splits),
+        Verdict::No(splits) => without_start(to, b"NO", splits),
+        Verdict::Open(splits) => without_start(to, b"OPEN", splits),
+        Verdict::Refused(reason) => writeln!(to, "REFUSED {reason}"),
     }
 }
 
-fn yes(start: StateNo, splits: u16) {
-    words(b"YES ");
-    number(start.0);
-    words(b" ");
-    number(splits);
-    words(b"\nstate mark block move\n");
+fn yes<W: Write>(to: &mut W, start: StateNo, splits: u16) -> io::Result<()> {
+    let named = start.0;
+    writeln!(to, "YES {named} {splits}\nstate mark block move")
 }
 
-fn without_start(word: &[u8], splits: u16) {
-    words(word);
-    words(b" - ");
-    number(splits);
-    words(b"\nstate mark block move\n");
+fn without_start<W: Write>(to: &mut W, word: &[u8], splits: u16) -> io::Result<()> {
+    to.write_all(word)?;
+    writeln!(to, " - {splits}\nstate mark block move")
 }
 
 // The line of one state.
-pub fn state(this: u16, mark: u16, block: u16, planned: u16) {
-    number(this);
-    words(b" ");
-    words_of_mark(mark);
-    words(b" ");
-    number(block);
-    words(b" ");
-    move_of(planned);
-    words(b"\n");
+pub fn state<W: Write>(
+    to: &mut W,
+    this: u16,
+    mark: u16,
+    block: u16,
+    planned: u16,
+) -> io::Result<()> {
+    write!(to, "{this} ")?;
+    words_of_mark(to, mark)?;
+    write!(to, " {block} ")?;
+    move_of(to, planned)?;
+    writeln!(to)
 }
 
-fn words_of_mark(mark: u16) {
+fn words_of_mark<W: Write>(to: &mut W, mark: u16) -> io::Result<()> {
     match mark {
-        0 => words(b"never"),
-        1 => words(b"open"),
-        2 => words(b"sure"),
-        _ => words(b"WRONG"),
+        0 => write!(to, "never"),
+        1 => write!(to, "open"),
+        2 => write!(to, "sure"),
+        _ => write!(to, "WRONG"),
     }
 }
 
-fn move_of(planned: u16) {
+fn move_of<W: Write>(to: &mut W, planned: u16) -> io::Result<()> {
     if planned == 65535 {
-        words(b"-");
+        write!(to, "-")
     } else {
-        number(planned);
+        write!(to, "{planned}")
     }
 }
