@@ -57,7 +57,7 @@ pub fn gather(n: usize, block: &[u16], last: &mut [u16], before: &mut [u16], siz
 }
 
 // The chain of the members of one block: its last member, counted from 1, and how many there are.
-#[derive(Drop)]
+#[derive(Clone, Copy)]
 pub struct Chain {
     pub last: u16,
     pub size: u16,

@@ -8,19 +8,19 @@ use decoding::Decoded;
 use exchange::Exchanged;
 use solver::Verdict;
 
-#[derive(Drop)]
+#[derive(Clone, Copy)]
 pub struct TwoVerdicts {
     pub first: Verdict,
     pub second: Verdict,
 }
 
-#[derive(Drop)]
+#[derive(Clone, Copy)]
 pub struct TwoGames {
     pub first: Decoded,
     pub second: Decoded,
 }
 
-#[derive(Drop)]
+#[derive(Clone, Copy)]
 pub struct TwoExchanges {
     pub first: Exchanged,
     pub second: Exchanged,

@@ -14,7 +14,7 @@ pub mod again;
 pub mod c_calls;
 
 // The verdict of a file and that of the exchanged file.
-#[derive(Drop)]
+#[derive(Clone, Copy)]
 pub struct BothVerdicts {
     pub file: Verdict,
     pub exchanged: Verdict,

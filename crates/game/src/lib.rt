@@ -15,7 +15,7 @@ pub struct BlockNo(pub u16);
 // A game of at most `MAX_STATES` states and `MAX_MOVES` moves. The first places of each row, one per state or per
 // move, say the game; the rest are 0. The objective is 1 for reach and 2 for stay, a turn is 1 or 2, marks are 1 for
 // an initial state, 2 for a target state, 3 for both and 0 for neither.
-#[derive(Drop)]
+#[derive(Clone, Copy)]
 pub struct Game {
     pub states: usize,
     pub moves: usize,

@@ -146,6 +146,8 @@ module _ {n : ℕ} {block : List ℕ} (names : Names n block) {b : ℕ} (low : b
                 same : (x y : Bool) → T (beq x y) → x ≡ y
                 same true true h = refl
                 same false false h = refl
+                same false true h = elim h [ ]
+                same true false h = elim h [ ]
 
             go : (x : Bool) → C b ≡ x → count n (λ s. eqb (get_or finer s 0) b && leb (get_or need s 0) (t s)) ≡ cond x (count n (λ s. eqb (get_or finer s 0) b)) 0
             go true e = count_cong n _ _ (λ s l. rw (← meant s) (T_ext _ _ (λ h. and_l (eqb (get_or finer s 0) b) (C s) h) (λ h. and_intro (eqb (get_or finer s 0) b) (C s) h (holds (C s) (alike s l h ∙ e)))))
@@ -161,6 +163,8 @@ module _ {n : ℕ} {block : List ℕ} (names : Names n block) {b : ℕ} (low : b
                 other : (x y : Bool) → T (not (beq x y)) → x ≡ not y
                 other true false h = refl
                 other false true h = refl
+                other false false h = elim h [ ]
+                other true true h = elim h [ ]
 
             go : (x : Bool) → C b ≡ x → count n (λ s. eqb (get_or finer s 0) c && leb (get_or need s 0) (t s)) ≡ cond x 0 (count n (λ s. eqb (get_or finer s 0) c))
             go true e = count_none n _ (λ s l. rw (← meant s) (is_false _ (λ h. fails (C s) (unlike s l (and_l (eqb (get_or finer s 0) c) (C s) h) ∙ ap not e) (and_r (eqb (get_or finer s 0) c) (C s) h))))

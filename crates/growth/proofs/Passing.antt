@@ -47,6 +47,7 @@ ripe_in : (own : ℕ) (r : Bool) (number : ℕ) → 1 ≤ number → T r → pas
 unfolding pass_no
 ripe_in zero true number l h v = omega arith
 ripe_in (suc own) r number l h v = let z : suc own ≡ 0 = rw (eqb-suc-zero own) at v in omega arith
+ripe_in zero false number l h v = elim h [ ]
 
 module _ {w : Net} (sound : Sound w) (f : ℕ → ℕ) {pass end q : ℕ} {have hit row queue : List ℕ} {tail : ℕ} (was : Passing w f pass end q have hit row queue tail) where
   -- what a state more needs, and what it leaves

@@ -263,10 +263,10 @@ pub fn grow(
     row: &mut [u16],
     queue: &mut [u16],
 ) -> usize
-    requires by_index { (g : Game) × (side : ℕ) × Lent g side n m from.now to.now need.now block.now }
+    requires lent { (g : Game) × (side : ℕ) × Lent g side n m from.now to.now need.now block.now }
     requires linked { Linked n m to.now last.now before.now × Gathered n block.now last_member.now member_before.now size.now × (n ≤ length hit.old) × Counted n m from.now to.now handled have.old row.old queue.old tail }
     ensures grown { Grown (net n m whole from.now to.now need.now block.now size.now) have.new hit.new row.new queue.new result }
-    ensures holds { (g : Game) (side : ℕ) → Lent g side n m from.now to.now need.now block.now → Holds n row.new (stamp_from (joining g side whole) (pass_at row.old) n) }
+    ensures stamped { (g : Game) (side : ℕ) → Lent g side n m from.now to.now need.now block.now → Holds n row.new (stamp_from (joining g side whole) (pass_at row.old) n) }
 {
     clear(n, hit);
     count_hits(n, block, need, have, hit);
@@ -326,10 +326,10 @@ pub fn grow_on(
     row: &mut [u16],
     queue: &mut [u16],
 ) -> usize
-    requires by_index { (g : Game) × (side : ℕ) × Lent g side n m from.now to.now need.now block.now }
+    requires lent { (g : Game) × (side : ℕ) × Lent g side n m from.now to.now need.now block.now }
     requires linked { Linked n m to.now last.now before.now × Gathered n block.now last_member.now member_before.now size.now × (b < n) × Regrowing (net n m true from.now to.now need.now block.now size.now) (λ s. eqb b (get_or block.now s 0)) have.old hit.old row.old queue.old tail }
     ensures grown { Grown (net n m true from.now to.now need.now block.now size.now) have.new hit.new row.new queue.new result }
-    ensures holds { (g : Game) (side : ℕ) → Lent g side n m from.now to.now need.now block.now → Holds n row.new (stamp_from (joining g side true) (pass_at row.old) n) }
+    ensures stamped { (g : Game) (side : ℕ) → Lent g side n m from.now to.now need.now block.now → Holds n row.new (stamp_from (joining g side true) (pass_at row.old) n) }
 {
     let filled = join_block(n, b, 2, block, last_member, member_before, tail, row, queue);
     run_passes(

@@ -12,7 +12,7 @@ use rows::sets;
 
 // How a run came out: the splits, and the rows of its last round: the pass in which each state entered what the hunting
 // side surely brings about, and what it may.
-#[derive(Drop)]
+#[derive(Clone, Copy)]
 pub struct Ran {
     pub splits: u16,
     pub lower: [u16; Game::MAX_STATES],
@@ -42,7 +42,7 @@ fn last_lower(
     queue: &mut [u16],
 ) -> usize
     requires finishing { Finishing n m made tail from.now to.now last.now before.now need.now prey.now block.now last_member.old member_before.old size.old have.old hit.old lower.old queue.old }
-    requires n_in_bounds { (n ≤ length last_member.old) × (n ≤ length member_before.old) × (n ≤ length size.old) × (n ≤ length have.old) × (n ≤ length hit.old) × (n ≤ length lower.old) × (n ≤ length queue.old) }
+    requires room { (n ≤ length last_member.old) × (n ≤ length member_before.old) × (n ≤ length size.old) × (n ≤ length have.old) × (n ≤ length hit.old) × (n ≤ length lower.old) × (n ≤ length queue.old) }
     ensures { (f : Finishing n m made tail from.now to.now last.now before.now need.now prey.now block.now last_member.old member_before.old size.old have.old hit.old lower.old queue.old) → Lowered f.game n m from.now to.now need.now block.now last_member.new member_before.new size.new have.new hit.new lower.new queue.new result × Numbered f.game n lower.new }
 {
     if made == 0 {
@@ -91,7 +91,7 @@ fn last_rows(
     queue: &mut [u16],
 ) -> [u16; Game::MAX_STATES]
     requires finishing { Finishing n m made tail from.now to.now last.now before.now need.now prey.now block.now last_member.old member_before.old size.old have.old hit.old lower.old queue.old }
-    requires n_in_bounds { (n ≤ length last_member.old) × (n ≤ length member_before.old) × (n ≤ length size.old) × (n ≤ length have.old) × (n ≤ length hit.old) × (n ≤ length lower.old) × (n ≤ length queue.old) }
+    requires room { (n ≤ length last_member.old) × (n ≤ length member_before.old) × (n ≤ length size.old) × (n ≤ length have.old) × (n ≤ length hit.old) × (n ≤ length lower.old) × (n ≤ length queue.old) }
     ensures { (f : Finishing n m made tail from.now to.now last.now before.now need.now prey.now block.now last_member.old member_before.old size.old have.old hit.old lower.old queue.old) → Numbered f.game n lower.new × Saying n result (upper_states f.game) }
 {
     let end = last_lower(

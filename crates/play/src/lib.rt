@@ -15,7 +15,7 @@ use runs::starts;
 
 // Where the rounds stopped: after how many splits, whether that round is lost for the hunting side, how many of the first
 // rounds are known not to be, and the end of the queue.
-#[derive(Drop)]
+#[derive(Clone, Copy)]
 pub struct Stop {
     pub made: usize,
     pub lost: bool,
@@ -93,7 +93,7 @@ pub fn play_rounds(
     names: &mut [u16],
 ) -> Stop
     requires begun { Begun side n m objective turn.now starts.now from.now to.now last.now before.now need.now first.now prey.now block.old last_member.old member_before.old size.old have.old hit.old lower.old queue.old tail }
-    requires max_states_in_bounds { (max_states ≤ length parents.old) × (max_states ≤ length names.old) }
+    requires room { (max_states ≤ length parents.old) × (max_states ≤ length names.old) }
     ensures { (v : Begun side n m objective turn.now starts.now from.now to.now last.now before.now need.now first.now prey.now block.old last_member.old member_before.old size.old have.old hit.old lower.old queue.old tail) → Played v.game side n m objective turn.now starts.now from.now to.now last.now before.now need.now first.now prey.now block.new last_member.new member_before.new size.new have.new hit.new lower.new queue.new parents.new names.new result.made result.clear result.tail × Stopped v.game allowance lower.old lower.new result.lost result.made result.clear }
 {
     let mut made: usize = 0;

@@ -24,7 +24,7 @@ use game::{BlockNo, Game, has_mark};
 pub type PassRow = [u16; Game::MAX_STATES];
 
 // What the search for a border block found.
-#[derive(Drop)]
+#[derive(Clone, Copy)]
 pub enum Border {
     At(BlockNo),
     Nothing,
@@ -217,8 +217,8 @@ fn rename_apart(n: usize, b: usize, name: u16, need: &[u16], have: &[u16], block
 // the other gets the name that is returned.
 pub fn split_block(n: usize, b: usize, need: &[u16], have: &[u16], block: &mut [u16]) -> u16
     requires { (n ≤ max_states) × (b < n) × (n ≤ length need.now) × (n ≤ length have.now) × (n ≤ length block.old) }
-    ensures value { result ≡ least n (row_apart block.old b (enough need.now have.now)) }
-    ensures holds { Holds n block.new (after_split result block.old b (enough need.now have.now)) }
+    ensures named { result ≡ least n (row_apart block.old b (enough need.now have.now)) }
+    ensures parted { Holds n block.new (after_split result block.old b (enough need.now have.now)) }
 {
     let name = lowest_apart(n, b, need, have, block);
     rename_apart(n, b, name, need, have, block);
@@ -249,8 +249,8 @@ pub fn part_block(
     hit: &mut [u16],
 ) -> u16
     requires { (n ≤ max_states) × (b < n) × (n ≤ length need.now) × (n ≤ length have.now) × (n ≤ length block.old) × Names n block.old × (get_or block.old b 0 ≡ b) × Gathered n block.old last.old before.old size.old × Holds n hit.old (hits_of n block.old need.now (λ s. get_or have.now s 0)) × (least n (row_apart block.old b (enough need.now have.now)) < n) }
-    ensures value { result ≡ least n (row_apart block.old b (enough need.now have.now)) }
-    ensures holds { Holds n block.new (after_split result block.old b (enough need.now have.now)) }
+    ensures named { result ≡ least n (row_apart block.old b (enough need.now have.now)) }
+    ensures parted { Holds n block.new (after_split result block.old b (enough need.now have.now)) }
     ensures gathered { Gathered n block.new last.new before.new size.new × Holds n hit.new (hits_of n block.new need.now (λ s. get_or have.now s 0)) }
 {
     let name = split_block(n, b, need, have, block);

@@ -48,10 +48,10 @@ pub fn grow_anew(
     row: &mut [u16],
     queue: &mut [u16],
 ) -> usize
-    requires by_index { (g : Game) × (side : ℕ) × Lent g side n m from.now to.now need.now block.now }
+    requires lent { (g : Game) × (side : ℕ) × Lent g side n m from.now to.now need.now block.now }
     requires linked { Linked n m to.now last.now before.now × (n ≤ length last_member.old) × (n ≤ length member_before.old) × (n ≤ length size.old) × (n ≤ length have.old) × (n ≤ length hit.old) × (n ≤ length row.old) × (n ≤ length queue.old) }
     ensures gathered { Gathered n block.now last_member.new member_before.new size.new × Grown (net n m whole from.now to.now need.now block.now size.new) have.new hit.new row.new queue.new result }
-    ensures holds { (g : Game) (side : ℕ) → Lent g side n m from.now to.now need.now block.now → Holds n row.new (stamp_from (joining g side whole) (pass_at row.old) n) }
+    ensures stamped { (g : Game) (side : ℕ) → Lent g side n m from.now to.now need.now block.now → Holds n row.new (stamp_from (joining g side whole) (pass_at row.old) n) }
 {
     gather(n, block, last_member, member_before, size);
     clear(n, have);

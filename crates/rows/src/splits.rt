@@ -11,7 +11,7 @@ use growth::grow_on;
 use rounds::part_block;
 
 // What a split leaves: the name of the new block, and the end of the queue.
-#[derive(Drop)]
+#[derive(Clone, Copy)]
 pub struct Step {
     pub name: u16,
     pub tail: usize,
@@ -48,8 +48,8 @@ pub fn split_round(
     queue: &mut [u16],
 ) -> Step
     requires { (u : Underway n m from.now to.now last.now before.now need.now block.old last_member.old member_before.old size.old have.old hit.old lower.old queue.old tail) × Next u.game n block.old b }
-    ensures name_value { result.name ≡ least n (row_apart block.old b (enough need.now have.old)) }
-    ensures holds { (u : Underway n m from.now to.now last.now before.now need.now block.old last_member.old member_before.old size.old have.old hit.old lower.old queue.old tail) → Next u.game n block.old b → Holds n block.new (block_at (split_game lowest_first u.game)) × Lowered (split_game lowest_first u.game) n m from.now to.now need.now block.new last_member.new member_before.new size.new have.new hit.new lower.new queue.new result.tail }
+    ensures named { result.name ≡ least n (row_apart block.old b (enough need.now have.old)) }
+    ensures split { (u : Underway n m from.now to.now last.now before.now need.now block.old last_member.old member_before.old size.old have.old hit.old lower.old queue.old tail) → Next u.game n block.old b → Holds n block.new (block_at (split_game lowest_first u.game)) × Lowered (split_game lowest_first u.game) n m from.now to.now need.now block.new last_member.new member_before.new size.new have.new hit.new lower.new queue.new result.tail }
 {
     let name = part_block(
         n,

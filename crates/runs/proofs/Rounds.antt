@@ -119,6 +119,8 @@ border-parts g {b} h =
     unlike : (x y z : Bool) → T x → T (not y) → T (not (beq x z)) ⊎ T (not (beq y z))
     unlike true false true p q = inr tt
     unlike true false false p q = inl tt
+    unlike false y z p q = elim p [ ]
+    unlike true true z p q = elim q [ ]
 
 -- ## The game after a split
 

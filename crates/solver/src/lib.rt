@@ -22,7 +22,7 @@ const ENDS: usize = 513;
 
 // What the solver says of a file: YES with the named start and the splits made, NO or OPEN with the splits, or the
 // number of a refusal, 1 to 11.
-#[derive(Drop)]
+#[derive(Clone, Copy)]
 pub enum Verdict {
     Yes(StateNo, u16),
     No(u16),
@@ -31,7 +31,7 @@ pub enum Verdict {
 }
 
 // What a round says of its game.
-#[derive(Drop)]
+#[derive(Clone, Copy)]
 pub enum Decision {
     Yes(StateNo),
     No,

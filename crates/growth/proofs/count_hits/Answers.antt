@@ -1,0 +1,32 @@
+-- `count_hits` meets its contract: the members passed are counted.
+use Prim.Native.Nat.{◌-◌, ◌≤◌}
+use mathlib.Core.Path.{◌≡◌, refl, ap, ◌∙◌}
+use mathlib.Core.Logic.{⊎_elim}
+use native.Mathlib.Omega.{arith}
+use lib.ListN.{length, get_or, length-set}
+use Rattle.chains.specs.Lent.{Holds}
+use Rattle.growth.specs.Net.{hits_of}
+use Rattle.chains.proofs.Filling.{places}
+use Rattle.growth.proofs.Hits.{hits-none, hits_more, hits-same, hits-le}
+use Rattle.growth.proofs.count_hits.Goals as goal
+use Rattle.growth.proofs.count_hits.Goals.{then-have-s, else-have-s}
+
+pub loop-s-init : goal.loop-s-init
+loop-s-init c = (search places, hits-none _ _ _ c.requires.4, refl)
+
+pub overflow_add-hit : goal.overflow_add-hit
+overflow_add-hit c =
+    let low = c.requires.1.below _ c.loop-s-test.true in
+    omega (arith, c.loop-s.invariant.1.cell _ low, hits-le c.args.block.now c.args.need.now (λ t. get_or c.args.have.now t 0) c.loop-s.s (get_or c.args.block.now c.loop-s.s 0))
+
+pub loop-s-preserved : goal.loop-s-preserved
+loop-s-preserved c =
+    let inv = c.loop-s.invariant in
+    let low = c.requires.1.below _ c.loop-s-test.true in
+    elim c.if-have-s.branch [
+      then-have-s w ↦ (omega arith, hits_more _ _ _ _ inv.1 low w.if-have-s.true w.hit-is, ap length w.hit-is ∙ simp length-set inv.2)
+    | else-have-s w ↦ (omega arith, hits-same _ _ _ _ inv.1 w.if-have-s.false w.hit-is, ap length w.hit-is ∙ inv.2)
+    ]
+
+pub returns : goal.returns
+returns c = let e : c.loop-s.s ≡ c.args.n = omega arith in rw e at c.loop-s.invariant.1

@@ -1,0 +1,18 @@
+-- `count_hits` meets its contract: the members passed are counted.
+use Prim.Native.Nat.{◌-◌, ◌≤◌}
+use mathlib.Core.Path.{◌≡◌, refl, ap, ◌∙◌}
+use mathlib.Core.Logic.{⊎_elim}
+use native.Mathlib.Omega.{arith}
+use lib.ListN.{length, get_or, length-set}
+use Rattle.chains.specs.Lent.{Holds}
+use Rattle.growth.specs.Net.{hits_of}
+use Rattle.chains.proofs.Filling.{places}
+use Rattle.growth.proofs.Hits.{hits-none, hits_more, hits-same, hits-le}
+use Rattle.growth.proofs.count_hits.Given as goal
+
+abbrev pub invariant-loop-s : goal.invariant-loop-s
+invariant-loop-s l =
+    (l.s ≤ l.n) × Holds l.n l.hit (hits_of l.s l.block l.need (λ t. get_or l.have t 0)) × (length l.hit ≡ length l.initial.hit)
+
+abbrev pub decreases-loop-s : goal.decreases-loop-s
+decreases-loop-s l = l.n - l.s

@@ -1,0 +1,17 @@
+-- `join_ripe` meets its contract: the ripe blocks with the numbers passed have joined.
+use Prim.Native.Nat.{◌-◌, ◌≤◌}
+use mathlib.Core.Path.{◌≡◌, refl, sym, ap, ◌∙◌}
+use mathlib.Core.Logic.{⊎_elim}
+use native.Mathlib.Omega.{arith}
+use lib.ListN.{length}
+use Rattle.growth.specs.Net.{ripe_by}
+use Rattle.growth.specs.Queue.{Joined}
+use Rattle.growth.proofs.Ripening.{joined-none, joined_same, joined_then, ripe_below, below_none, below_more, below-same, below_all}
+use Rattle.growth.proofs.join_ripe.Given as goal
+
+abbrev pub invariant-loop-b : goal.invariant-loop-b
+invariant-loop-b l =
+    (l.b ≤ l.n) × Joined l.n (ripe_below (ripe_by l.whole l.size l.hit) l.block l.b) 2 l.initial.row l.initial.queue l.tail l.row l.queue l.end × (length l.row ≡ length l.initial.row) × (length l.queue ≡ length l.initial.queue)
+
+abbrev pub decreases-loop-b : goal.decreases-loop-b
+decreases-loop-b l = l.n - l.b

@@ -1,0 +1,18 @@
+-- `last_round` meets its contract.
+use mathlib.Core.Path.{refl}
+use native.Mathlib.Omega.{arith}
+use borrow.Author.Rules.{rules}
+use Rattle.runs.proofs.First.{settled-run}
+use Rattle.play.proofs.Ending.{retracing}
+use Rattle.play.proofs.last_round.Goals as goal
+
+pub first_lost-requires : goal.first_lost-requires
+first_lost-requires c = retracing c.requires c.if-lost.true
+
+pub returns-then-lost : goal.returns-then-lost
+returns-then-lost c =
+    let done = c.first_lost.ensures in
+    ((λ e. let d = done.0 (retracing e c.if-lost.true) in (settled-run e.game e.present.accepted _ d.0 (omega arith) (omega (arith, e.within, done.1)), d.1)), done.1, done.2)
+
+pub returns : goal.returns
+returns c = ((λ e. (e.ended c.if-lost.false, e.blocks_are)), omega arith, λ _. refl)

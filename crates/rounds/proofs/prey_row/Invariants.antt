@@ -1,0 +1,22 @@
+-- `prey_row` meets its contract: the places passed tell the prey.
+use Prim.Native.Nat.{◌-◌, ◌≤◌, ◌<◌}
+use mathlib.Core.Path.{◌≡◌, ap, ◌∙◌}
+use native.Mathlib.Omega.{arith}
+use lib.ListN.{length, get_or}
+use Rattle.arena.specs.Sets.{bit}
+use Rattle.game.specs.Limits.{max_states}
+use Rattle.game.specs.Rows.{fill, blank, zeros}
+use Rattle.game.specs.Game.{marked}
+use Rattle.game.specs.Published.{goal_of}
+use Rattle.game.proofs.Rows.{fill_none, fill_store, zeros-length}
+use Rattle.blocks.specs.Hunt.{prey}
+use Rattle.game.proofs.Small.{sweep}
+use Rattle.rounds.proofs.Prey.{prey_is}
+use Rattle.rounds.proofs.prey_row.Given as goal
+
+abbrev pub invariant-loop-s : goal.invariant-loop-s
+invariant-loop-s l =
+    (l.s ≤ l.n) × (l.row ≡ fill l.s (λ s. bit (prey (goal_of l.objective) (λ t. marked 2 (get_or l.marks t 0)) s)) (zeros max_states))
+
+abbrev pub decreases-loop-s : goal.decreases-loop-s
+decreases-loop-s l = l.n - l.s

@@ -1,0 +1,19 @@
+-- `rename_apart` meets its contract: the places passed have the new blocks, the others the old ones.
+use Prim.Native.Nat.{◌-◌, ◌≤◌}
+use mathlib.Core.Path.{◌≡◌, refl}
+use mathlib.Core.Bool.{cond, not, ◌&&◌, beq}
+use native.Mathlib.Omega.{arith}
+use lib.ListN.{length, length-set}
+use lib.Dec.{eqb}
+use Rattle.game.specs.Rows.{fill}
+use Rattle.game.proofs.Rows.{fill_none, fill_done}
+use Rattle.chains.proofs.Filling.{places, filled, change_more}
+use Rattle.rounds.specs.Renamed.{enough, after_split}
+use Rattle.rounds.proofs.rename_apart.Given as goal
+
+abbrev pub invariant-loop-s : goal.invariant-loop-s
+invariant-loop-s l =
+    (l.s ≤ l.n) × (l.block ≡ fill l.s (after_split l.name l.initial.block l.b (enough l.need l.have)) l.initial.block) × (length l.block ≡ length l.initial.block)
+
+abbrev pub decreases-loop-s : goal.decreases-loop-s
+decreases-loop-s l = l.n - l.s

@@ -1,0 +1,15 @@
+-- `copy_row` meets its contract: the places passed are copied.
+use Prim.Native.Nat.{◌-◌, ◌≤◌}
+use mathlib.Core.Path.{◌≡◌, refl}
+use native.Mathlib.Omega.{arith}
+use lib.ListN.{length, get_or, length-set}
+use Rattle.chains.specs.Lent.{Holds}
+use Rattle.chains.proofs.Filling.{places, holds_none, holds_more, holds_done}
+use Rattle.rows.proofs.sets.copy_row.Given as goal
+
+abbrev pub invariant-loop-s : goal.invariant-loop-s
+invariant-loop-s l =
+    (l.s ≤ l.n) × Holds l.s l.out (λ t. get_or l.values t 0) × (length l.out ≡ length l.initial.out)
+
+abbrev pub decreases-loop-s : goal.decreases-loop-s
+decreases-loop-s l = l.n - l.s

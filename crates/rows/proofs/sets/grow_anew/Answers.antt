@@ -1,0 +1,33 @@
+-- `grow_anew` meets its contract.
+use Prim.Native.Nat.{ℕ, ◌≤◌}
+use mathlib.Core.Path.{◌∙◌}
+use mathlib.Core.List.{List}
+use Rattle.game.specs.Limits.{max_states}
+use Rattle.game.specs.declared.Game.{Game}
+use Rattle.chains.specs.Lent.{Lent}
+use Rattle.growth.proofs.Says.{blocks}
+use Rattle.rows.proofs.Copies.{counted_none}
+use Rattle.rows.proofs.sets.grow_anew.Goals as goal
+
+-- the states of rows that are lent are few
+sound-few : {g : Game} {side n m : ℕ} {from to need block : List ℕ} → Lent g side n m from to need block → n ≤ max_states
+sound-few p = rw (← p.states_is) p.ranged.few-states
+
+pub gather-requires : goal.gather-requires
+gather-requires c = ((sound-few c.requires.lent.2, blocks c.requires.lent.2, c.requires.linked.1, c.requires.linked.2, c.requires.linked.3))
+
+pub clear-requires : goal.clear-requires
+clear-requires c = c.requires.linked.4
+
+pub list_states-tail-requires : goal.list_states-tail-requires
+list_states-tail-requires c = ((sound-few c.requires.lent.2, c.requires.linked.6, c.requires.linked.7))
+
+pub grow-requires : goal.grow-requires
+grow-requires c = 
+    record {
+      lent = c.requires.lent;
+      linked = (c.requires.linked.0, c.gather.ensures, c.requires.linked.5, counted_none _ _ _ _ c.clear.ensures c.list_states-tail.ensures c.requires.linked.6);
+    }
+
+pub returns : goal.returns
+returns c = record { gathered = (c.gather.ensures, c.grow.ensures.grown); stamped = c.grow.ensures.stamped }

@@ -1,0 +1,18 @@
+-- `undo_split` meets its contract: the places passed have the blocks before the split, the others those after it.
+use Prim.Native.Nat.{◌-◌, ◌≤◌}
+use mathlib.Core.Path.{◌≡◌, refl}
+use mathlib.Core.Bool.{cond}
+use native.Mathlib.Omega.{arith}
+use lib.ListN.{length, get_or, length-set}
+use lib.Dec.{eqb}
+use Rattle.game.specs.Rows.{fill}
+use Rattle.game.proofs.Rows.{fill_none, fill_done}
+use Rattle.chains.proofs.Filling.{places, filled, change_more}
+use Rattle.runs.proofs.log.undo_split.Given as goal
+
+abbrev pub invariant-loop-s : goal.invariant-loop-s
+invariant-loop-s l =
+    (l.s ≤ l.n) × (l.block ≡ fill l.s (λ t. cond (eqb (get_or l.initial.block t 0) l.name) l.parent (get_or l.initial.block t 0)) l.initial.block) × (length l.block ≡ length l.initial.block)
+
+abbrev pub decreases-loop-s : goal.decreases-loop-s
+decreases-loop-s l = l.n - l.s
