@@ -12,14 +12,14 @@ use game::{BlockNo, Game, StateNo};
 pub mod plain;
 
 // What is said of a file: it is accepted, or it gets the refusal of this number, 2 to 11.
-#[derive(Drop)]
+#[derive(Clone, Copy)]
 pub enum Answer {
     Accepted,
     Refused(u8),
 }
 
 // The answer with the game of the file beside it. Beside a refusal stands the empty game.
-#[derive(Drop)]
+#[derive(Clone, Copy)]
 pub struct Decoded {
     pub answer: Answer,
     pub game: Game,

@@ -9,7 +9,7 @@ ghost use Rattle.exchange.specs.Bytes.{exchanged_byte};
 use file::{first_refusal, number_at};
 
 // What the exchange answers: the length that it wrote, or the number of a refusal, 1 to 11.
-#[derive(Drop)]
+#[derive(Clone, Copy)]
 pub enum Exchanged {
     Written(usize),
     Refused(u8),
