@@ -46,18 +46,16 @@ loop-s-preserved c =
     let inv = c.loop-s.invariant in
     let left = c.loop-s-test.true in
     elim c.if-block-s.branch [
-      then-block-s w ↦
-        (
-          omega (arith, left),
-          chain_member c.args.block.now c.args.b c.args.before.now inv.1 left w.if-block-s.true w.before-is w.last-is w.size-is,
-          ap length w.before-is ∙ simp length-set inv.2,
-        )
-    | else-block-s w ↦
-        (
-          omega (arith, left),
-          chain_other c.args.block.now c.args.b c.args.before.now inv.1 w.if-block-s.false w.before-is w.last-is w.size-is,
-          ap length w.before-is ∙ inv.2,
-        )
+      | then-block-s w ↦ (
+        omega (arith, left),
+        chain_member c.args.block.now c.args.b c.args.before.now inv.1 left w.if-block-s.true w.before-is w.last-is w.size-is,
+        ap length w.before-is ∙ simp length-set inv.2,
+      )
+      | else-block-s w ↦ (
+        omega (arith, left),
+        chain_other c.args.block.now c.args.b c.args.before.now inv.1 w.if-block-s.false w.before-is w.last-is w.size-is,
+        ap length w.before-is ∙ inv.2,
+      )
     ]
 
 pub shape_of-before : goal.shape_of-before

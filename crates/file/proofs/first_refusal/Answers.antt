@@ -34,14 +34,13 @@ returns-then-move_-ne0 c = rw (← c.number_at-n.ensures, ← c.number_at-m.ensu
 
 pub whole_fault-requires : goal.whole_fault-requires
 unfolding refusal
-whole_fault-requires c =
-    (
-      search faults,
-      search faults,
-      sound _ (sym c.head_fault-head.ensures ∙ c.if-head-ne0.false)
-          (rw c.number_at-n.ensures at (sym c.states_fault-state.ensures ∙ c.if-state-ne0.false))
-          (rw c.number_at-m.ensures at (sym c.moves_fault-move_.ensures ∙ c.if-move_-ne0.false)),
-    )
+whole_fault-requires c = (
+  search faults,
+  search faults,
+  sound _ (sym c.head_fault-head.ensures ∙ c.if-head-ne0.false)
+      (rw c.number_at-n.ensures at (sym c.states_fault-state.ensures ∙ c.if-state-ne0.false))
+      (rw c.number_at-m.ensures at (sym c.moves_fault-move_.ensures ∙ c.if-move_-ne0.false)),
+)
 
 pub returns : goal.returns
 unfolding refusal

@@ -22,12 +22,11 @@ returns-then-own-first c =
     (λ q. beq_apart _ _ c.if-own-first.true (c.has_mark-own.ensures ∙ q ∙ sym (c.has_mark-first.ensures ∙ ap (λ (b : ℕ). marked c.args.mark (byte c.args.file.now (state_at b + c.args.field))) c.number_at-b.ensures)))
 
 pub loop-s-preserved : goal.loop-s-preserved
-loop-s-preserved c =
-    (
-      search walk,
-      below_more _ _ c.loop-s.invariant.1
-          (sym c.has_mark-own.ensures ∙ beq_same _ _ c.if-own-first.false ∙ c.has_mark-first.ensures ∙ ap (λ (b : ℕ). marked c.args.mark (byte c.args.file.now (state_at b + c.args.field))) c.number_at-b.ensures),
-    )
+loop-s-preserved c = (
+  search walk,
+  below_more _ _ c.loop-s.invariant.1
+      (sym c.has_mark-own.ensures ∙ beq_same _ _ c.if-own-first.false ∙ c.has_mark-first.ensures ∙ ap (λ (b : ℕ). marked c.args.mark (byte c.args.file.now (state_at b + c.args.field))) c.number_at-b.ensures),
+)
 
 pub returns : goal.returns
 returns c = mixed-none _ _ (λ s l. c.loop-s.invariant.1 s (omega arith))
