@@ -3,7 +3,8 @@
 ghost use Rattle.std.specs.Prelude.{◌<◌};
 
 use crate::show;
-use sheet_lines::{fitting, large_buffer};
+use input::large_buffer;
+use sheet_lines::fitting;
 use std::io;
 use std::io::Write;
 

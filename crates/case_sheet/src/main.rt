@@ -8,18 +8,22 @@ mod print;
 mod sheet;
 mod show;
 
-use std::io;
-use std::io::{BufWriter, Read, Write};
+ghost use Rattle.std.specs.Prelude.{◌≡◌, length};
 
-// Room for the whole sheet. A longer one is cut here.
-const MOST_BYTES: u64 = 262144;
+use std::io;
+
+// Room for the whole sheet. The `ensures` gives the length alone, which is what lending the array asks for.
+fn sheet_room() -> [u8; 262144]
+    ensures { 262144 ≡ length result }
+{
+    [0; 262144]
+}
 
 fn main(rt: HostRuntime) -> io::Result<()> {
-    let mut text = Vec::new(rt.alloc());
-    rt.reader().take(MOST_BYTES).read_to_end(&mut text)?;
-    let mut to = BufWriter::new(rt.alloc(), io::writer(&rt))?;
-    sheet::each_line(&mut to, &text)?;
+    let mut room = sheet_room();
+    let count = input::read_full(&mut rt.stdin(), &mut room)?;
+    let mut to = io::writer(&rt);
+    sheet::each_line(&mut to, &room[..count])?;
     build::long_files(&mut to)?;
-    build::largest_files(&mut to)?;
-    to.flush()
+    build::largest_files(&mut to)
 }

@@ -1,6 +1,7 @@
 // The sheet: a line for each case has its name, a colon, a space, and the file's bytes as hexadecimal digits.
 use crate::show;
-use sheet_lines::{find, fitting, large_buffer, read_digits};
+use input::large_buffer;
+use sheet_lines::{find, fitting, read_digits};
 use std::io;
 use std::io::Write;
 

@@ -1,6 +1,7 @@
 // The rest of a case's line: what the decoder and the exchange make of a file.
 use crate::print;
-use sheet_lines::{fitting, large_buffer};
+use input::large_buffer;
+use sheet_lines::fitting;
 use std::io;
 use std::io::Write;
 

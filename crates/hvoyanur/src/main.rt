@@ -2,15 +2,9 @@
 #![tactic(auto)]
 
 use std::io;
-use std::io::{BufWriter, Read, Write};
-
-// A longer input is cut here.
-const MOST_BYTES: u64 = 65536;
 
 fn main(rt: HostRuntime) -> io::Result<()> {
-    let mut file = Vec::new(rt.alloc());
-    rt.reader().take(MOST_BYTES).read_to_end(&mut file)?;
-    let mut out = BufWriter::new(rt.alloc(), io::writer(&rt))?;
-    report::print_answer(&mut out, &file, 511)?;
-    out.flush()
+    let mut file = input::large_buffer();
+    let length = input::read_full(&mut rt.stdin(), &mut file)?;
+    report::print_answer(&mut io::writer(&rt), &file[..length], 511)
 }

@@ -15,17 +15,17 @@ mod sheet;
 mod swap;
 mod winners;
 
+use input::large_buffer;
 use shape::Shape;
 use std::io;
-use std::io::{BufWriter, Write};
-use swap::{fitting, large_buffer};
+use std::io::Write;
+use swap::fitting;
 
 fn main(rt: HostRuntime) -> io::Result<()> {
-    let mut to = BufWriter::new(rt.alloc(), io::writer(&rt))?;
+    let mut to = io::writer(&rt);
     let mut counts = counts::room();
     games_below(&mut to, shape::GAMES, &mut counts)?;
-    counts::print(&mut to, &counts)?;
-    to.flush()
+    counts::print(&mut to, &counts)
 }
 
 fn games_below<W: Write>(to: &mut W, end: u64, counts: &mut [u64]) -> io::Result<()> {

@@ -3,6 +3,7 @@ ghost use Rattle.std.specs.Prelude.{◌≡◌, ◌≤◌, length, take};
 
 use crate::sheet;
 use crate::sheet::{Sheet, one_if, put};
+use input::large_buffer;
 
 // Writes the exchanged file, and notes on the file's sheet whether it is written, and whether exchanging it leads back.
 pub fn exchange(file: &[u8], out: &mut [u8], sheet: &mut Sheet) {
@@ -28,14 +29,6 @@ fn leads_back(exchanged: &[u8], file: &[u8]) -> bool {
         return false;
     }
     begins(&out, file)
-}
-
-// 65,536 zeros, which hold any file that is accepted. The `ensures` gives only the length, which lending the array as a slice
-// needs.
-pub fn large_buffer() -> [u8; 65536]
-    ensures { 65536 ≡ length result }
-{
-    [0; 65536]
 }
 
 // The size itself, or the length of `room` where that is less.

@@ -92,11 +92,3 @@ fn digit(byte: u8) -> u8
     }
     0
 }
-
-// 65,536 zeros, which hold any file that is accepted. The `ensures` gives only the length, which lending the array as a slice
-// needs.
-pub fn large_buffer() -> [u8; 65536]
-    ensures { 65536 ≡ length result }
-{
-    [0; 65536]
-}

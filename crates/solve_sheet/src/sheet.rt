@@ -1,7 +1,8 @@
 // The sheet: a line for each case has its name, a colon, and, each after a space, the allowance, the places of the rows of marks, of
 // blocks and of moves, and the file's bytes as hexadecimal digits.
 use crate::show;
-use sheet_lines::{find, fitting, large_buffer, number_from, read_digits};
+use input::large_buffer;
+use sheet_lines::{find, fitting, number_from, read_digits};
 use std::io;
 use std::io::Write;
 
