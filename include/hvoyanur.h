@@ -1,6 +1,6 @@
 /* Hvoyanur for C: solves a finite two-player game given as a file's bytes, and writes the file of the exchanged game.
  *
- * Build the library with `rt staticlib hvoyanur_c`; link target/staticlib/libhvoyanur_c.a (x86-64 Linux).
+ * Build the library with `tools/static_library`; link target/staticlib/libhvoyanur_c.a (x86-64 Linux).
  *
  * What the caller owes, and nothing tests:
  * - each pointer is valid for as many elements as the length after it says, and aligned for them; it may be NULL only

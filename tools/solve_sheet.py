@@ -462,7 +462,7 @@ def print_summary(sheet, printed):
 
 def compare_random(count):
     """Runs the built program over this many random games, two hundred at a time."""
-    program = [os.path.join(FOLDER, 'run_x86_64'), os.path.join(FOLDER, '..', 'target', 'bin', 'solve_sheet')]
+    program = [os.path.join(FOLDER, 'run_x86_64'), os.path.join(FOLDER, '..', 'crates', 'solve_sheet', 'out', 'solve_sheet')]
     dice = Dice(count)
     for first in range(0, count, 200):
         cases = []

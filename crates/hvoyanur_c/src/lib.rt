@@ -1,4 +1,4 @@
-// The library for C, and for Rust that links it: each answer comes as one number. `include/hvoyanur.h` declares the calls.
+// The calls for C, each answer as one number. The crate `hvoyanur_c_c` exports them under the names that `include/hvoyanur.h` declares.
 #![tactic(auto)]
 
 ghost use Rattle.std.specs.Prelude.{◌≡◌};

@@ -1,9 +1,7 @@
 -- `clear` meets its contract: the places passed hold 0.
-use Prim.Native.Nat.{◌-◌, ◌≤◌}
-use mathlib.Core.Path.{◌≡◌, refl}
+use mathlib.Core.Path.{refl}
 use native.Mathlib.Omega.{arith}
-use lib.ListN.{length, length-set}
-use Rattle.chains.specs.Lent.{Holds}
+use lib.ListN.{length-set}
 use Rattle.chains.proofs.Filling.{holds_none, holds_more, places}
 use Rattle.chains.proofs.clear.Goals as goal
 

@@ -1,10 +1,8 @@
 -- `clear` meets its contract: the places passed hold 0.
 use Prim.Native.Nat.{◌-◌, ◌≤◌}
-use mathlib.Core.Path.{◌≡◌, refl}
-use native.Mathlib.Omega.{arith}
-use lib.ListN.{length, length-set}
+use mathlib.Core.Path.{◌≡◌}
+use lib.ListN.{length}
 use Rattle.chains.specs.Lent.{Holds}
-use Rattle.chains.proofs.Filling.{holds_none, holds_more, places}
 use Rattle.chains.proofs.clear.Given as goal
 
 abbrev pub invariant-loop-s : goal.invariant-loop-s

@@ -1,10 +1,8 @@
 -- `count_keys` meets its contract: the keys passed are counted.
 use Prim.Native.Nat.{◌-◌, ◌≤◌}
-use mathlib.Core.Path.{◌≡◌, refl}
-use native.Mathlib.Omega.{arith}
-use lib.ListN.{length, get_or, length-set}
+use mathlib.Core.Path.{◌≡◌}
+use lib.ListN.{length}
 use Rattle.chains.specs.Lent.{Holds, many_of}
-use Rattle.chains.proofs.Filling.{places, many_none, many_more, many_le}
 use Rattle.chains.proofs.count_keys.Given as goal
 
 abbrev pub invariant-loop-k : goal.invariant-loop-k

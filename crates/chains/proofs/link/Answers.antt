@@ -1,9 +1,7 @@
 -- `link` meets its contract: the places passed are linked.
-use Prim.Native.Nat.{◌-◌, ◌≤◌}
 use mathlib.Core.Path.{◌≡◌, refl}
 use native.Mathlib.Omega.{arith}
-use lib.ListN.{length, get_or, length-set}
-use Rattle.chains.specs.Lent.{Holds, last_below}
+use lib.ListN.{length-set}
 use Rattle.chains.proofs.Filling.{places, holds_none, link_none, link_more, link_before}
 use Rattle.chains.proofs.link.Goals as goal
 

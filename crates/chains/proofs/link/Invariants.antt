@@ -1,10 +1,8 @@
 -- `link` meets its contract: the places passed are linked.
 use Prim.Native.Nat.{◌-◌, ◌≤◌}
-use mathlib.Core.Path.{◌≡◌, refl}
-use native.Mathlib.Omega.{arith}
-use lib.ListN.{length, get_or, length-set}
+use mathlib.Core.Path.{◌≡◌}
+use lib.ListN.{length, get_or}
 use Rattle.chains.specs.Lent.{Holds, last_below}
-use Rattle.chains.proofs.Filling.{places, holds_none, link_none, link_more, link_before}
 use Rattle.chains.proofs.link.Given as goal
 
 abbrev pub invariant-loop-k : goal.invariant-loop-k

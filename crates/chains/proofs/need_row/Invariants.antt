@@ -1,13 +1,10 @@
 -- `need_row` meets its contract: the places passed say what is needed, the others still how many moves there are.
 use Prim.Native.Nat.{◌-◌, ◌≤◌}
-use mathlib.Core.Path.{◌≡◌, refl}
+use mathlib.Core.Path.{◌≡◌}
 use mathlib.Core.Bool.{cond}
-use native.Mathlib.Omega.{arith}
-use lib.ListN.{length, get_or, length-set}
+use lib.ListN.{length, get_or}
 use lib.Dec.{eqb}
 use Rattle.game.specs.Rows.{fill}
-use Rattle.game.proofs.Rows.{fill_none, fill_done}
-use Rattle.chains.proofs.Filling.{places, filled, change_more}
 use Rattle.chains.proofs.need_row.Given as goal
 
 abbrev pub invariant-loop-s : goal.invariant-loop-s

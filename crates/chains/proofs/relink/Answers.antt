@@ -1,10 +1,8 @@
 -- `relink` meets its contract: the members passed are linked.
-use Prim.Native.Nat.{◌-◌, ◌≤◌}
 use mathlib.Core.Path.{◌≡◌, refl, ap, ◌∙◌}
-use mathlib.Core.Logic.{⊎_elim}
 use native.Mathlib.Omega.{arith}
 use lib.ListN.{length, length-set}
-use Rattle.chains.proofs.Parting.{Chained, chain_none, chain_member, chain_other, chain_few}
+use Rattle.chains.proofs.Parting.{chain_none, chain_member, chain_other, chain_few}
 use Rattle.chains.proofs.relink.Goals as goal
 use Rattle.chains.proofs.relink.Goals.{then-block-s, else-block-s}
 

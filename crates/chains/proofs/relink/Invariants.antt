@@ -1,10 +1,8 @@
 -- `relink` meets its contract: the members passed are linked.
 use Prim.Native.Nat.{◌-◌, ◌≤◌}
-use mathlib.Core.Path.{◌≡◌, refl, ap, ◌∙◌}
-use mathlib.Core.Logic.{⊎_elim}
-use native.Mathlib.Omega.{arith}
-use lib.ListN.{length, length-set}
-use Rattle.chains.proofs.Parting.{Chained, chain_none, chain_member, chain_other, chain_few}
+use mathlib.Core.Path.{◌≡◌}
+use lib.ListN.{length}
+use Rattle.chains.proofs.Parting.{Chained}
 use Rattle.chains.proofs.relink.Given as goal
 
 abbrev pub invariant-loop-s : goal.invariant-loop-s

@@ -1,5 +1,4 @@
 -- `decode_as_promised` meets its contract.
-use borrow.Author.Rules.{rules}
 use Rattle.demands.proofs.Calls.{decode_promise}
 use Rattle.demands.proofs.decode_as_promised.Goals as goal
 

@@ -1,5 +1,4 @@
 -- `exchange_as_promised` meets its contract.
-use borrow.Author.Rules.{rules}
 use Rattle.demands.proofs.Calls.{exchange_promise}
 use Rattle.demands.proofs.exchange_as_promised.Goals as goal
 

@@ -1,5 +1,4 @@
 -- `solve_as_promised` meets its contract.
-use borrow.Author.Rules.{rules}
 use Rattle.demands.proofs.Calls.{solve_promise}
 use Rattle.demands.proofs.solve_as_promised.Goals as goal
 

@@ -1,7 +1,6 @@
 -- `solve_exchanged_as_promised` meets its contract.
 use mathlib.Core.Path.{ap}
 use native.Mathlib.Omega.{arith}
-use borrow.Author.Rules.{rules}
 use Rattle.exchange.specs.Exchange.{Outcome}
 use Rattle.demands.proofs.Calls.{exchanged_solve_promise}
 use Rattle.demands.proofs.solve_exchanged_as_promised.Goals as goal

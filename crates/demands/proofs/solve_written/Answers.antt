@@ -1,7 +1,6 @@
 -- `solve_written` meets its contract.
 use mathlib.Core.Path.{sym}
 use lib.Seq.{length-take-le}
-use borrow.Author.Rules.{rules}
 use Rattle.demands.proofs.solve_written.Goals as goal
 
 pub slice_bounds-solve-end : goal.slice_bounds-solve-end

@@ -1,11 +1,6 @@
 -- `all_moved` meets its contract.
 use native.Mathlib.Omega.{arith}
-use mathlib.Core.Path.{◌≡◌}
-use mathlib.Core.Bool.{true}
-use Prim.Native.Nat.{◌-◌, ◌≤◌}
 use Rattle.arena.proofs.Loops.{every_false, every_still}
-use Rattle.arena.specs.Sets.{every}
-use Rattle.file.specs.Refusals.{moved}
 use Rattle.game.proofs.Rows.{walk, bit-one, bit_not}
 use Rattle.file.proofs.all_moved.Goals as goal
 

@@ -1,9 +1,9 @@
 -- `mixed_blocks` meets its contract.
 use borrow.Author.Count.{below_more, below_none}
 use native.Mathlib.Omega.{arith}
-use mathlib.Core.Path.{◌≡◌, sym, ap, ◌∙◌}
-use Prim.Native.Nat.{ℕ, ◌+◌, ◌-◌, ◌≤◌, ◌<◌}
-use Rattle.file.specs.Layout.{byte, state_at, block}
+use mathlib.Core.Path.{sym, ap, ◌∙◌}
+use Prim.Native.Nat.{ℕ, ◌+◌}
+use Rattle.file.specs.Layout.{byte, state_at}
 use Rattle.game.proofs.Rows.{walk}
 use Rattle.game.specs.Game.{marked}
 use Rattle.file.proofs.Sound.{block-below}

@@ -1,13 +1,8 @@
 -- `mixed_blocks` meets its contract.
-use borrow.Author.Count.{below_more, below_none}
-use native.Mathlib.Omega.{arith}
-use mathlib.Core.Path.{◌≡◌, sym, ap, ◌∙◌}
+use mathlib.Core.Path.{◌≡◌}
 use Prim.Native.Nat.{ℕ, ◌+◌, ◌-◌, ◌≤◌, ◌<◌}
 use Rattle.file.specs.Layout.{byte, state_at, block}
-use Rattle.game.proofs.Rows.{walk}
 use Rattle.game.specs.Game.{marked}
-use Rattle.file.proofs.Sound.{block-below}
-use Rattle.file.proofs.Mixed.{beq_apart, beq_same, mixed_found, mixed-none}
 use Rattle.file.proofs.mixed_blocks.Given as goal
 
 abbrev pub invariant-loop-s : goal.invariant-loop-s

@@ -2,15 +2,13 @@
 use borrow.Author.Tests.{eq-eqb, ne_eqb}
 use native.Mathlib.Omega.{arith}
 use mathlib.Core.Path.{◌≡◌, refl, sym, ap, ◌∙◌}
-use Prim.Native.Nat.{◌-◌, ◌≤◌}
-use lib.Dec.{eqb}
 use Rattle.arena.proofs.Loops.{some-zero}
-use Rattle.arena.specs.Sets.{some, bit}
+use Rattle.arena.specs.Sets.{bit}
 use Rattle.file.specs.Layout.{moves, from}
 use Rattle.file.specs.Refusals.{moved}
 use Rattle.game.proofs.Rows.{walk, some_same, some_now, cells_store, zeros_at, zeros-length}
 use Rattle.game.specs.Limits.{max_states}
-use Rattle.game.specs.Rows.{blank, Cells}
+use Rattle.game.specs.Rows.{blank}
 use Rattle.file.proofs.Sound.{move-inside, from_small}
 use Rattle.file.proofs.moved_row.Goals as goal
 

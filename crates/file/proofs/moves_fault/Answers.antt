@@ -1,8 +1,4 @@
 -- `moves_fault` meets its contract.
-use mathlib.Core.Path.{◌≡◌}
-use Prim.Native.Nat.{◌-◌, ◌≤◌}
-use Rattle.file.specs.Fault.{lowest}
-use Rattle.file.specs.Refusals.{move_fault}
 use Rattle.file.proofs.Laws.{records}
 use Rattle.file.proofs.moves_fault.Goals as goal
 

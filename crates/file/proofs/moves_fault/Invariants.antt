@@ -3,7 +3,6 @@ use mathlib.Core.Path.{◌≡◌}
 use Prim.Native.Nat.{◌-◌, ◌≤◌}
 use Rattle.file.specs.Fault.{lowest}
 use Rattle.file.specs.Refusals.{move_fault}
-use Rattle.file.proofs.Laws.{records}
 use Rattle.file.proofs.moves_fault.Given as goal
 
 abbrev pub invariant-loop-k : goal.invariant-loop-k

@@ -1,5 +1,4 @@
 -- `number_within` meets its contract.
-use borrow.Author.Rules.{rules}
 use borrow.Author.Tests.{lt-leb, le-leb}
 use Rattle.file.proofs.number_within.Goals as goal
 

@@ -1,9 +1,4 @@
 -- `some_initial` meets its contract.
-use mathlib.Core.Path.{◌≡◌}
-use mathlib.Core.Bool.{false}
-use Prim.Native.Nat.{◌-◌, ◌≤◌}
-use Rattle.arena.specs.Sets.{some}
-use Rattle.file.specs.Refusals.{initial}
 use Rattle.game.proofs.Rows.{walk}
 use Rattle.file.proofs.some_initial.Goals as goal
 

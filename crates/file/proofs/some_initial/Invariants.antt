@@ -4,7 +4,6 @@ use mathlib.Core.Bool.{false}
 use Prim.Native.Nat.{◌-◌, ◌≤◌}
 use Rattle.arena.specs.Sets.{some}
 use Rattle.file.specs.Refusals.{initial}
-use Rattle.game.proofs.Rows.{walk}
 use Rattle.file.proofs.some_initial.Given as goal
 
 abbrev pub invariant-loop-s : goal.invariant-loop-s

@@ -1,9 +1,5 @@
 -- `states_fault` meets its contract.
-use mathlib.Core.Path.{◌≡◌}
-use Prim.Native.Nat.{◌-◌, ◌≤◌}
 use Rattle.file.proofs.Laws.{records}
-use Rattle.file.specs.Fault.{lowest}
-use Rattle.file.specs.Refusals.{state_fault}
 use Rattle.file.proofs.states_fault.Goals as goal
 
 pub loop-s-init : goal.loop-s-init

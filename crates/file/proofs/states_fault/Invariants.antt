@@ -1,7 +1,6 @@
 -- `states_fault` meets its contract.
 use mathlib.Core.Path.{◌≡◌}
 use Prim.Native.Nat.{◌-◌, ◌≤◌}
-use Rattle.file.proofs.Laws.{records}
 use Rattle.file.specs.Fault.{lowest}
 use Rattle.file.specs.Refusals.{state_fault}
 use Rattle.file.proofs.states_fault.Given as goal

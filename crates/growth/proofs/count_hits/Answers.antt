@@ -1,11 +1,7 @@
 -- `count_hits` meets its contract: the members passed are counted.
-use Prim.Native.Nat.{◌-◌, ◌≤◌}
 use mathlib.Core.Path.{◌≡◌, refl, ap, ◌∙◌}
-use mathlib.Core.Logic.{⊎_elim}
 use native.Mathlib.Omega.{arith}
 use lib.ListN.{length, get_or, length-set}
-use Rattle.chains.specs.Lent.{Holds}
-use Rattle.growth.specs.Net.{hits_of}
 use Rattle.chains.proofs.Filling.{places}
 use Rattle.growth.proofs.Hits.{hits-none, hits_more, hits-same, hits-le}
 use Rattle.growth.proofs.count_hits.Goals as goal
@@ -24,8 +20,8 @@ loop-s-preserved c =
     let inv = c.loop-s.invariant in
     let low = c.requires.1.below _ c.loop-s-test.true in
     elim c.if-have-s.branch [
-      then-have-s w ↦ (omega arith, hits_more _ _ _ _ inv.1 low w.if-have-s.true w.hit-is, ap length w.hit-is ∙ simp length-set inv.2)
-    | else-have-s w ↦ (omega arith, hits-same _ _ _ _ inv.1 w.if-have-s.false w.hit-is, ap length w.hit-is ∙ inv.2)
+      | then-have-s w ↦ (omega arith, hits_more _ _ _ _ inv.1 low w.if-have-s.true w.hit-is, ap length w.hit-is ∙ simp length-set inv.2)
+      | else-have-s w ↦ (omega arith, hits-same _ _ _ _ inv.1 w.if-have-s.false w.hit-is, ap length w.hit-is ∙ inv.2)
     ]
 
 pub returns : goal.returns

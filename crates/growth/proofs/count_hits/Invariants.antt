@@ -1,13 +1,9 @@
 -- `count_hits` meets its contract: the members passed are counted.
 use Prim.Native.Nat.{◌-◌, ◌≤◌}
-use mathlib.Core.Path.{◌≡◌, refl, ap, ◌∙◌}
-use mathlib.Core.Logic.{⊎_elim}
-use native.Mathlib.Omega.{arith}
-use lib.ListN.{length, get_or, length-set}
+use mathlib.Core.Path.{◌≡◌}
+use lib.ListN.{length, get_or}
 use Rattle.chains.specs.Lent.{Holds}
 use Rattle.growth.specs.Net.{hits_of}
-use Rattle.chains.proofs.Filling.{places}
-use Rattle.growth.proofs.Hits.{hits-none, hits_more, hits-same, hits-le}
 use Rattle.growth.proofs.count_hits.Given as goal
 
 abbrev pub invariant-loop-s : goal.invariant-loop-s

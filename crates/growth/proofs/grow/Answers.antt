@@ -1,5 +1,4 @@
 -- `grow` meets its contract.
-use mathlib.Core.Path.{◌∙◌}
 use mathlib.Core.Bool.{true}
 use Rattle.growth.specs.Stamp.{pass_at}
 use Rattle.growth.proofs.Passing.{grow_first}

@@ -1,6 +1,5 @@
 -- `grow_on` meets its contract.
 use Prim.Native.Nat.{◌≤◌}
-use mathlib.Core.Path.{◌∙◌}
 use mathlib.Core.Bool.{true}
 use native.Mathlib.Omega.{arith}
 use Rattle.growth.specs.Stamp.{pass_at}

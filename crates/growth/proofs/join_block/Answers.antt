@@ -1,9 +1,8 @@
 -- `join_block` meets its contract: the members from the present one on have joined.
-use mathlib.Core.Path.{◌≡◌, refl, ap, ◌∙◌}
-use mathlib.Core.Logic.{⊎_elim}
+use mathlib.Core.Path.{refl, ap, ◌∙◌}
 use native.Mathlib.Omega.{arith}
 use lib.ListN.{length, length-set}
-use Rattle.growth.proofs.Queue.{Joining, join_begins, join_skip, join_take, join_ends, chain_start, chain_member, chain_room}
+use Rattle.growth.proofs.Queue.{join_begins, join_skip, join_take, join_ends, chain_start, chain_member, chain_room}
 use Rattle.growth.proofs.join_block.Goals as goal
 use Rattle.growth.proofs.join_block.Goals.{then-row-s-eq0, else-row-s-eq0}
 
@@ -64,18 +63,16 @@ loop-at-preserved c =
     let left = c.loop-at-test.true in
     let linked = c.requires.3 in
     elim c.if-row-s-eq0.branch [
-      then-row-s-eq0 w ↦
-        (
-          join_take linked inv.0 left c.requires.2 w.row-is w.queue-is w.end-is w.if-row-s-eq0.true,
-          ap length w.row-is ∙ simp length-set inv.1,
-          ap length w.queue-is ∙ simp length-set inv.2,
-        )
-    | else-row-s-eq0 w ↦
-        (
-          join_skip linked inv.0 left w.row-is w.queue-is w.end-is w.if-row-s-eq0.false,
-          ap length w.row-is ∙ inv.1,
-          ap length w.queue-is ∙ inv.2,
-        )
+      | then-row-s-eq0 w ↦ (
+        join_take linked inv.0 left c.requires.2 w.row-is w.queue-is w.end-is w.if-row-s-eq0.true,
+        ap length w.row-is ∙ simp length-set inv.1,
+        ap length w.queue-is ∙ simp length-set inv.2,
+      )
+      | else-row-s-eq0 w ↦ (
+        join_skip linked inv.0 left w.row-is w.queue-is w.end-is w.if-row-s-eq0.false,
+        ap length w.row-is ∙ inv.1,
+        ap length w.queue-is ∙ inv.2,
+      )
     ]
 
 pub returns : goal.returns

@@ -1,9 +1,7 @@
 -- `join_block` meets its contract: the members from the present one on have joined.
-use mathlib.Core.Path.{◌≡◌, refl, ap, ◌∙◌}
-use mathlib.Core.Logic.{⊎_elim}
-use native.Mathlib.Omega.{arith}
-use lib.ListN.{length, length-set}
-use Rattle.growth.proofs.Queue.{Joining, join_begins, join_skip, join_take, join_ends, chain_start, chain_member, chain_room}
+use mathlib.Core.Path.{◌≡◌}
+use lib.ListN.{length}
+use Rattle.growth.proofs.Queue.{Joining}
 use Rattle.growth.proofs.join_block.Given as goal
 
 abbrev pub invariant-loop-at : goal.invariant-loop-at

@@ -1,12 +1,9 @@
 -- `join_ripe` meets its contract: the ripe blocks with the numbers passed have joined.
-use Prim.Native.Nat.{◌-◌, ◌≤◌}
-use mathlib.Core.Path.{◌≡◌, refl, sym, ap, ◌∙◌}
-use mathlib.Core.Logic.{⊎_elim}
+use mathlib.Core.Path.{refl, sym, ap, ◌∙◌}
 use native.Mathlib.Omega.{arith}
 use lib.ListN.{length}
 use Rattle.growth.specs.Net.{ripe_by}
-use Rattle.growth.specs.Queue.{Joined}
-use Rattle.growth.proofs.Ripening.{joined-none, joined_same, joined_then, ripe_below, below_none, below_more, below-same, below_all}
+use Rattle.growth.proofs.Ripening.{joined-none, joined_same, joined_then, below_none, below_more, below-same, below_all}
 use Rattle.growth.proofs.join_ripe.Goals as goal
 use Rattle.growth.proofs.join_ripe.Goals.{then-is_ripe, else-is_ripe}
 
@@ -41,20 +38,18 @@ loop-b-preserved c =
     let R = ripe_by c.args.whole c.args.size.now c.args.hit.now in
     let block = c.args.block.now in
     elim c.if-is_ripe.branch [
-      then-is_ripe w ↦
-        (
-          omega (c.loop-b-test.true, arith),
-          joined_then inv.1 (omega arith) (rw (w.row-is, w.queue-is, w.end-is) w.join_block-end.ensures) (λ s _. below_more R block c.loop-b.b s (sym ripe ∙ w.if-is_ripe.true)),
-          c.if-is_ripe.auto.row ∙ inv.2,
-          c.if-is_ripe.auto.queue ∙ inv.3,
-        )
-    | else-is_ripe w ↦
-        (
-          omega (c.loop-b-test.true, arith),
-          rw (w.row-is, w.queue-is, w.end-is) (joined_same inv.1 (λ s _. below-same R block c.loop-b.b s (sym ripe ∙ w.if-is_ripe.false))),
-          ap length w.row-is ∙ inv.2,
-          ap length w.queue-is ∙ inv.3,
-        )
+      | then-is_ripe w ↦ (
+        omega (c.loop-b-test.true, arith),
+        joined_then inv.1 (omega arith) (rw (w.row-is, w.queue-is, w.end-is) w.join_block-end.ensures) (λ s _. below_more R block c.loop-b.b s (sym ripe ∙ w.if-is_ripe.true)),
+        c.if-is_ripe.auto.row ∙ inv.2,
+        c.if-is_ripe.auto.queue ∙ inv.3,
+      )
+      | else-is_ripe w ↦ (
+        omega (c.loop-b-test.true, arith),
+        rw (w.row-is, w.queue-is, w.end-is) (joined_same inv.1 (λ s _. below-same R block c.loop-b.b s (sym ripe ∙ w.if-is_ripe.false))),
+        ap length w.row-is ∙ inv.2,
+        ap length w.queue-is ∙ inv.3,
+      )
     ]
 
 pub returns : goal.returns

@@ -1,12 +1,10 @@
 -- `join_ripe` meets its contract: the ripe blocks with the numbers passed have joined.
 use Prim.Native.Nat.{◌-◌, ◌≤◌}
-use mathlib.Core.Path.{◌≡◌, refl, sym, ap, ◌∙◌}
-use mathlib.Core.Logic.{⊎_elim}
-use native.Mathlib.Omega.{arith}
+use mathlib.Core.Path.{◌≡◌}
 use lib.ListN.{length}
 use Rattle.growth.specs.Net.{ripe_by}
 use Rattle.growth.specs.Queue.{Joined}
-use Rattle.growth.proofs.Ripening.{joined-none, joined_same, joined_then, ripe_below, below_none, below_more, below-same, below_all}
+use Rattle.growth.proofs.Ripening.{ripe_below}
 use Rattle.growth.proofs.join_ripe.Given as goal
 
 abbrev pub invariant-loop-b : goal.invariant-loop-b

@@ -1,14 +1,8 @@
 -- `list_states` meets its contract: the queue lists the states passed.
-use Prim.Native.Nat.{◌-◌, ◌≤◌, ◌<◌}
-use mathlib.Core.Path.{◌≡◌, refl, ap, ◌∙◌}
-use mathlib.Core.Bool.{not}
-use mathlib.Core.Logic.{⊎_elim}
-use native.Mathlib.Omega.{arith}
-use borrow.Author.Tests.{eq-eqb, ne_eqb}
-use lib.ListN.{length, length-set}
+use Prim.Native.Nat.{◌-◌, ◌≤◌}
+use mathlib.Core.Path.{◌≡◌}
+use lib.ListN.{length}
 use Rattle.growth.specs.Queue.{Listed}
-use Rattle.chains.proofs.Filling.{places}
-use Rattle.growth.proofs.Listing.{listed-none, listed_more, listed_same}
 use Rattle.growth.proofs.list_states.Given as goal
 
 abbrev pub invariant-loop-s : goal.invariant-loop-s

@@ -1,9 +1,5 @@
 -- `run_passes` meets its contract: before each pass the row holds the passes so far.
-use Prim.Native.Nat.{ℕ, ◌-◌}
-use mathlib.Core.Path.{◌≡◌, refl, ◌∙◌}
-use lib.ListN.{length}
-use Rattle.growth.specs.Net.{net}
-use Rattle.growth.specs.Queue.{Passing}
+use mathlib.Core.Path.{refl, ◌∙◌}
 use Rattle.growth.proofs.Passing.{pass_work, turn_on, pass_next, pass_last, pass_grown, pass_within}
 use Rattle.growth.proofs.run_passes.Goals as goal
 

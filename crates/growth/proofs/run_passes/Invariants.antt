@@ -1,10 +1,9 @@
 -- `run_passes` meets its contract: before each pass the row holds the passes so far.
 use Prim.Native.Nat.{ℕ, ◌-◌}
-use mathlib.Core.Path.{◌≡◌, refl, ◌∙◌}
+use mathlib.Core.Path.{◌≡◌}
 use lib.ListN.{length}
 use Rattle.growth.specs.Net.{net}
 use Rattle.growth.specs.Queue.{Passing}
-use Rattle.growth.proofs.Passing.{pass_work, turn_on, pass_next, pass_last, pass_grown, pass_within}
 use Rattle.growth.proofs.run_passes.Given as goal
 
 abbrev pub invariant-loop-q-2 : goal.invariant-loop-q-2

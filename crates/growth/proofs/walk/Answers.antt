@@ -1,12 +1,8 @@
 -- `walk` meets its contract: the moves from the present one on are counted.
-use mathlib.Core.Path.{◌≡◌, refl, sym, ap, ◌∙◌}
-use mathlib.Core.Logic.{⊎_elim}
+use mathlib.Core.Path.{refl, sym, ap, ◌∙◌}
 use lib.ListN.{length, get_or}
-use Prim.Native.Nat.{◌-◌, ◌<◌}
-use Rattle.growth.specs.Stamp.{pass_at}
-use Rattle.growth.specs.Net.{net}
-use Rattle.growth.specs.Queue.{Walking}
-use Rattle.growth.proofs.Walking.{Turn, beginning, walk_begins, turning, longer, step_quiet, step_hit, step_join, walk_ends}
+use Prim.Native.Nat.{◌-◌}
+use Rattle.growth.proofs.Walking.{beginning, walk_begins, turning, longer, step_quiet, step_hit, step_join, walk_ends}
 use Rattle.growth.proofs.walk.Goals as goal
 use Rattle.growth.proofs.walk.Goals.{then-more-need+then-met-enough, then-more-need+else-met-enough, else-more-need}
 
@@ -116,30 +112,27 @@ loop-at-preserved c =
     let counted = longer c.loop-at.have (get_or c.args.from.now (c.loop-at.at - 1) 0) inv.1 in
     let struck = longer c.loop-at.hit (get_or c.args.block.now (get_or c.args.from.now (c.loop-at.at - 1) 0) 0) inv.2 in
     elim c.if-more-need.branch [
-      then-more-need+then-met-enough w ↦
-        (
-          turning c.requires.0 c.requires.1 (step_join c.requires.0 c.requires.1 inv.0.0 left refl w.hit-is w.if-more-need.true c.requires.4 (w.if-met-enough.true ∙ w.enough.ensures) (rw (w.row-is, w.queue-is, w.tail-is) w.join_block-tail.ensures)),
-          counted,
-          ap length w.hit-is ∙ struck,
-          c.if-more-need.auto.row ∙ inv.3,
-          c.if-more-need.auto.queue ∙ inv.4,
-        )
-    | then-more-need+else-met-enough w ↦
-        (
-          turning c.requires.0 c.requires.1 (step_hit c.requires.0 c.requires.1 inv.0.0 left refl w.hit-is w.if-more-need.true w.row-is w.queue-is w.tail-is (λ z. w.if-met-enough.false (z ∙ sym w.enough.ensures))),
-          counted,
-          ap length w.hit-is ∙ struck,
-          ap length w.row-is ∙ inv.3,
-          ap length w.queue-is ∙ inv.4,
-        )
-    | else-more-need w ↦
-        (
-          turning c.requires.0 c.requires.1 (step_quiet c.requires.0 c.requires.1 inv.0.0 left refl w.hit-is w.row-is w.queue-is w.tail-is w.if-more-need.false),
-          counted,
-          ap length w.hit-is ∙ inv.2,
-          ap length w.row-is ∙ inv.3,
-          ap length w.queue-is ∙ inv.4,
-        )
+      | then-more-need+then-met-enough w ↦ (
+        turning c.requires.0 c.requires.1 (step_join c.requires.0 c.requires.1 inv.0.0 left refl w.hit-is w.if-more-need.true c.requires.4 (w.if-met-enough.true ∙ w.enough.ensures) (rw (w.row-is, w.queue-is, w.tail-is) w.join_block-tail.ensures)),
+        counted,
+        ap length w.hit-is ∙ struck,
+        c.if-more-need.auto.row ∙ inv.3,
+        c.if-more-need.auto.queue ∙ inv.4,
+      )
+      | then-more-need+else-met-enough w ↦ (
+        turning c.requires.0 c.requires.1 (step_hit c.requires.0 c.requires.1 inv.0.0 left refl w.hit-is w.if-more-need.true w.row-is w.queue-is w.tail-is (λ z. w.if-met-enough.false (z ∙ sym w.enough.ensures))),
+        counted,
+        ap length w.hit-is ∙ struck,
+        ap length w.row-is ∙ inv.3,
+        ap length w.queue-is ∙ inv.4,
+      )
+      | else-more-need w ↦ (
+        turning c.requires.0 c.requires.1 (step_quiet c.requires.0 c.requires.1 inv.0.0 left refl w.hit-is w.row-is w.queue-is w.tail-is w.if-more-need.false),
+        counted,
+        ap length w.hit-is ∙ inv.2,
+        ap length w.row-is ∙ inv.3,
+        ap length w.queue-is ∙ inv.4,
+      )
     ]
 
 pub returns : goal.returns

@@ -1,12 +1,11 @@
 -- `walk` meets its contract: the moves from the present one on are counted.
-use mathlib.Core.Path.{◌≡◌, refl, sym, ap, ◌∙◌}
-use mathlib.Core.Logic.{⊎_elim}
-use lib.ListN.{length, get_or}
-use Prim.Native.Nat.{◌-◌, ◌<◌}
+use mathlib.Core.Path.{◌≡◌}
+use lib.ListN.{length}
+use Prim.Native.Nat.{◌<◌}
 use Rattle.growth.specs.Stamp.{pass_at}
 use Rattle.growth.specs.Net.{net}
 use Rattle.growth.specs.Queue.{Walking}
-use Rattle.growth.proofs.Walking.{Turn, beginning, walk_begins, turning, longer, step_quiet, step_hit, step_join, walk_ends}
+use Rattle.growth.proofs.Walking.{Turn}
 use Rattle.growth.proofs.walk.Given as goal
 
 abbrev pub invariant-loop-at : goal.invariant-loop-at

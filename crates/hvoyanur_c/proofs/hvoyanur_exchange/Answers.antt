@@ -1,7 +1,6 @@
 -- `hvoyanur_exchange` meets its contract.
-use mathlib.Core.Path.{◌∙◌, sym, ap}
+use mathlib.Core.Path.{ap}
 use native.Mathlib.Omega.{arith}
-use borrow.Author.Rules.{rules}
 use Rattle.exchange.specs.Exchange.{Outcome}
 use Rattle.hvoyanur_c.specs.Pack.{packed_writing}
 use Rattle.hvoyanur_c.proofs.Short.{written_short}

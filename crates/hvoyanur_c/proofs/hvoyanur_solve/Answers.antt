@@ -1,6 +1,5 @@
 -- `hvoyanur_solve` meets its contract.
 use mathlib.Core.Path.{ap}
-use borrow.Author.Rules.{rules}
 use Rattle.hvoyanur_c.specs.Pack.{packed_outcome}
 use Rattle.hvoyanur_c.proofs.hvoyanur_solve.Goals as goal
 

@@ -1,6 +1,5 @@
 -- `pack` meets its contract: each arm joins the numbers that the definition gives its case.
 use mathlib.Core.Path.{◌∙◌, sym, ap}
-use borrow.Author.Rules.{rules}
 use Rattle.hvoyanur_c.specs.Pack.{packed}
 use Rattle.hvoyanur_c.proofs.pack.Goals as goal
 

@@ -1,5 +1,4 @@
 -- `last_lower` meets its contract.
-use mathlib.Core.Path.{◌∙◌}
 use Rattle.rows.proofs.Present.{lent, few-states}
 use Rattle.outcome.proofs.Course.{lowered_anew, numbered_anew}
 use Rattle.outcome.proofs.last_lower.Goals as goal

@@ -1,5 +1,4 @@
 -- `last_rows` meets its contract.
-use borrow.Author.Rules.{rules}
 use Rattle.outcome.proofs.Course.{underway-last}
 use Rattle.outcome.proofs.last_rows.Goals as goal
 

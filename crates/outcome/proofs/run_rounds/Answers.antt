@@ -1,6 +1,6 @@
 -- `run_rounds` meets its contract: each answer is a step of the run's course.
 use Prim.Native.Nat.{ℕ, ◌≤◌}
-use mathlib.Core.Path.{◌≡◌, refl, sym, ◌∙◌}
+use mathlib.Core.Path.{◌≡◌}
 use native.Mathlib.Nat.{le_refl}
 use native.Mathlib.Omega.{arith}
 use Rattle.game.specs.Limits.{max_states}

@@ -1,6 +1,5 @@
 -- `is_over` meets its contract.
 use mathlib.Core.Path.{refl}
-use borrow.Author.Rules.{rules}
 use Rattle.play.proofs.is_over.Goals as goal
 
 pub returns-in-At : goal.returns-in-At

@@ -1,7 +1,6 @@
 -- `last_round` meets its contract.
 use mathlib.Core.Path.{refl}
 use native.Mathlib.Omega.{arith}
-use borrow.Author.Rules.{rules}
 use Rattle.runs.proofs.First.{settled-run}
 use Rattle.play.proofs.Ending.{retracing}
 use Rattle.play.proofs.last_round.Goals as goal

@@ -1,15 +1,13 @@
 -- `play_rounds` meets its contract: before each round the rows are those of the rounds played.
-use Prim.Native.Nat.{◌+◌, ◌-◌, ◌≤◌, zero-le}
+use Prim.Native.Nat.{◌+◌, ◌≤◌, zero-le}
 use native.Mathlib.Nat.{le_refl}
-use mathlib.Core.Path.{◌≡◌, refl, sym, ◌∙◌}
+use mathlib.Core.Path.{refl, sym, ◌∙◌}
 use mathlib.Core.Bool.{not}
-use mathlib.Core.Logic.{⊎_elim}
-use borrow.Author.Rules.{rules}
 use borrow.Author.Tests.{not-false}
-use lib.ListN.{length, length-set}
+use lib.ListN.{length-set}
 use Rattle.runs.specs.Run.{lowest_first, round}
 use Rattle.runs.specs.First.{CatchableBefore}
-use Rattle.rows.specs.RoundRows.{Next, Begun, Played}
+use Rattle.rows.specs.RoundRows.{Next}
 use Rattle.runs.proofs.First.{catchable-more}
 use Rattle.rows.proofs.Present.{few-states}
 use Rattle.rows.proofs.Bordering.{searched}
@@ -55,11 +53,13 @@ pub split_round-step-requires : goal.split_round-step-requires
 split_round-step-requires c =
     (let v = c.requires.begun in
     let y = (c.loop-n.invariant.0 v).0 in
-    let ok = v.present.accepted in
-    (underway ok y, rw c.block_number-b.ensures (next_here ok y c.has_way.ensures c.if-has_way.false (c.border_block-found.ensures (round lowest_first c.loop-n.made v.game) (searched y.present y.lowered)) c.args.allowance c.is_over-over.ensures (elim c.if-is_due.branch [
-      then-is_due+else-is_last w ↦ (neither _ _ w.is_last.ensures w.if-is_last.false).0
-    | else-is_due w ↦ (neither _ _ c.is_due.ensures w.if-is_due.false).0
-    ]))))
+    let ok = v.present.accepted in (
+      underway ok y,
+      rw c.block_number-b.ensures (next_here ok y c.has_way.ensures c.if-has_way.false (c.border_block-found.ensures (round lowest_first c.loop-n.made v.game) (searched y.present y.lowered)) c.args.allowance c.is_over-over.ensures (elim c.if-is_due.branch [
+        | then-is_due+else-is_last w ↦ (neither _ _ w.is_last.ensures w.if-is_last.false).0
+        | else-is_due w ↦ (neither _ _ c.is_due.ensures w.if-is_due.false).0
+      ])),
+    ))
 
 pub overflow_cast-parents : goal.overflow_cast-parents
 overflow_cast-parents c =
@@ -67,8 +67,8 @@ overflow_cast-parents c =
     let y = (c.loop-n.invariant.0 v).0 in
     let ok = v.present.accepted in
     next_fits ok y c.has_way.ensures c.if-has_way.false (c.border_block-found.ensures (round lowest_first c.loop-n.made v.game) (searched y.present y.lowered)) c.args.allowance c.is_over-over.ensures (elim c.if-is_due.branch [
-      then-is_due+else-is_last w ↦ (neither _ _ w.is_last.ensures w.if-is_last.false).0
-    | else-is_due w ↦ (neither _ _ c.is_due.ensures w.if-is_due.false).0
+      | then-is_due+else-is_last w ↦ (neither _ _ w.is_last.ensures w.if-is_last.false).0
+      | else-is_due w ↦ (neither _ _ c.is_due.ensures w.if-is_due.false).0
     ]) c.block_number-b.ensures
 
 pub offset_bounds-parents-made : goal.offset_bounds-parents-made
@@ -92,8 +92,8 @@ loop-n-smaller c =
     let y = (c.loop-n.invariant.0 v).0 in
     let ok = v.present.accepted in
     less_left ok y c.has_way.ensures c.if-has_way.false (c.border_block-found.ensures (round lowest_first c.loop-n.made v.game) (searched y.present y.lowered)) c.args.allowance c.is_over-over.ensures (elim c.if-is_due.branch [
-      then-is_due+else-is_last w ↦ (neither _ _ w.is_last.ensures w.if-is_last.false).0
-    | else-is_due w ↦ (neither _ _ c.is_due.ensures w.if-is_due.false).0
+      | then-is_due+else-is_last w ↦ (neither _ _ w.is_last.ensures w.if-is_last.false).0
+      | else-is_due w ↦ (neither _ _ c.is_due.ensures w.if-is_due.false).0
     ]) c.loop-n.invariant.1
 
 pub loop-n-preserved : goal.loop-n-preserved
@@ -105,24 +105,23 @@ loop-n-preserved c =
           let way = c.has_way.ensures in
           let named = c.block_number-b.ensures in
           let next : Next (round lowest_first c.loop-n.made v.game) c.args.n c.loop-n.block c.block_number-b.result = rw named (next_here ok y way c.if-has_way.false (c.border_block-found.ensures (round lowest_first c.loop-n.made v.game) (searched y.present y.lowered)) c.args.allowance c.is_over-over.ensures (elim c.if-is_due.branch [
-      then-is_due+else-is_last w ↦ (neither _ _ w.is_last.ensures w.if-is_last.false).0
-    | else-is_due w ↦ (neither _ _ c.is_due.ensures w.if-is_due.false).0
-    ])) in
+            | then-is_due+else-is_last w ↦ (neither _ _ w.is_last.ensures w.if-is_last.false).0
+            | else-is_due w ↦ (neither _ _ c.is_due.ensures w.if-is_due.false).0
+          ])) in
           let split = c.split_round-step.ensures in
           let more : CatchableBefore v.game c.if-is_due.clear × (c.if-is_due.clear ≤ c.loop-n.made + 1) =
-            elim c.if-is_due.branch [
-              then-is_due+else-is_last w ↦
-                (
-                  rw w.clear-is (catchable-more v.game ok c.loop-n.made (sym (open_now ok y way c.if-has_way.false (w.upper_row-upper.ensures (underway ok y)) w.has_way-lost.ensures) ∙ not-false w.has_way-lost.result (neither c.is_over-over.result (not w.has_way-lost.result) w.is_last.ensures w.if-is_last.false).1)),
-                  rw w.clear-is (le_refl (c.loop-n.made + 1)),
-                )
+          elim c.if-is_due.branch [
+            | then-is_due+else-is_last w ↦ (
+              rw w.clear-is (catchable-more v.game ok c.loop-n.made (sym (open_now ok y way c.if-has_way.false (w.upper_row-upper.ensures (underway ok y)) w.has_way-lost.ensures) ∙ not-false w.has_way-lost.result (neither c.is_over-over.result (not w.has_way-lost.result) w.is_last.ensures w.if-is_last.false).1)),
+              rw w.clear-is (le_refl (c.loop-n.made + 1)),
+            )
             | else-is_due w ↦ (rw w.clear-is y.hope, rw w.clear-is (clear_on ok y))
-            ] in
+          ] in
           (play-next ok y next split.named c.if-is_due.clear {finer = c.split_round-step.new.block} {last₁ = c.split_round-step.new.last_member} {before₁ = c.split_round-step.new.member_before} {size₁ = c.split_round-step.new.size} {have₁ = c.split_round-step.new.have} {hit₁ = c.split_round-step.new.hit} {lower₁ = c.split_round-step.new.lower} {queue₁ = c.split_round-step.new.queue} {tail₁ = c.split_round-step.result.tail} (uncaught_now ok y way c.if-has_way.false) more.0 more.1 (in_log ok y c.requires.room.0 inv.10) (in_log ok y c.requires.room.1 inv.11) (split.split (underway ok y) next).0 (split.split (underway ok y) next).1, λ z. absurd (some_made c.loop-n.made z))),
       (let v = c.requires.begun in let y = (inv.0 v).0 in let ok = v.present.accepted in allowed-next ok y c.has_way.ensures c.if-has_way.false (c.border_block-found.ensures (round lowest_first c.loop-n.made v.game) (searched y.present y.lowered)) c.args.allowance c.is_over-over.ensures (elim c.if-is_due.branch [
-      then-is_due+else-is_last w ↦ (neither _ _ w.is_last.ensures w.if-is_last.false).0
-    | else-is_due w ↦ (neither _ _ c.is_due.ensures w.if-is_due.false).0
-    ]) inv.1),
+        | then-is_due+else-is_last w ↦ (neither _ _ w.is_last.ensures w.if-is_last.false).0
+        | else-is_due w ↦ (neither _ _ c.is_due.ensures w.if-is_due.false).0
+      ]) inv.1),
       c.block-1.given ∙ inv.2,
       c.last_member-1.given ∙ inv.3,
       c.member_before-1.given ∙ inv.4,

@@ -1,19 +1,8 @@
 -- `play_rounds` meets its contract: before each round the rows are those of the rounds played.
-use Prim.Native.Nat.{◌+◌, ◌-◌, ◌≤◌, zero-le}
-use native.Mathlib.Nat.{le_refl}
-use mathlib.Core.Path.{◌≡◌, refl, sym, ◌∙◌}
-use mathlib.Core.Bool.{not}
-use mathlib.Core.Logic.{⊎_elim}
-use borrow.Author.Rules.{rules}
-use borrow.Author.Tests.{not-false}
-use lib.ListN.{length, length-set}
-use Rattle.runs.specs.Run.{lowest_first, round}
-use Rattle.runs.specs.First.{CatchableBefore}
-use Rattle.rows.specs.RoundRows.{Next, Begun, Played}
-use Rattle.runs.proofs.First.{catchable-more}
-use Rattle.rows.proofs.Present.{few-states}
-use Rattle.rows.proofs.Bordering.{searched}
-use Rattle.play.proofs.Playing.{play-first, underway, twice_fits, due_fits, more_fits, made_offset, in_log, clear_on, less_left, allowed-next, next_fits, some_made, stop_caught, uncaught_now, open_now, stop_last, next_here, play-next, neither}
+use Prim.Native.Nat.{◌-◌, ◌≤◌}
+use mathlib.Core.Path.{◌≡◌}
+use lib.ListN.{length}
+use Rattle.rows.specs.RoundRows.{Begun, Played}
 use Rattle.play.proofs.play_rounds.Given as goal
 
 abbrev pub invariant-loop-n : goal.invariant-loop-n

@@ -1,20 +1,11 @@
 -- `border_block` meets its contract: no block passed is a border block, no member passed of the present block is in the
 -- forced-step set, and the moves passed of the present member tell what is known of it.
-use Prim.Native.Nat.{ℕ, suc, ◌-◌, ◌≤◌, ◌<◌}
+use Prim.Native.Nat.{suc, ◌-◌, ◌<◌}
 use mathlib.Core.Path.{◌≡◌, refl}
-use mathlib.Core.Bool.{false}
-use mathlib.Core.Logic.{⊎_elim}
 use native.Mathlib.Omega.{arith}
-use lib.ListN.{get_or}
-use Rattle.arena.specs.Sets.{some, bit}
 use Rattle.arena.proofs.Loops.{some-zero, some_still}
-use Rattle.game.specs.declared.Game.{Game}
 use Rattle.game.proofs.Small.{sweep}
-use Rattle.growth.specs.Stamp.{is_in}
-use Rattle.growth.proofs.Seen.{seen}
-use Rattle.rounds.specs.Border.{bordering}
-use Rattle.rounds.specs.Search.{Search}
-use Rattle.rounds.proofs.Searching.{Passed, members_none, members_more, members_less, first-low, to_low, told_none, told_more, told_in, told_out, border-closed, border-none, border-member, Outside, answer-none, answer_found}
+use Rattle.rounds.proofs.Searching.{members_none, members_more, members_less, first-low, to_low, told_none, told_more, told_in, told_out, border-closed, border-none, border-member, answer-none, answer_found}
 use Rattle.rounds.proofs.border_block.Goals as goal
 use Rattle.rounds.proofs.border_block.Goals.{then-is_open+else-loop-at-test, else-is_open}
 
@@ -90,8 +81,8 @@ search-preserved c =
       omega arith,
       λ g q. some_still _ _ _ (c.search.invariant.1 g q) refl
           (elim c.if-is_open.branch [
-            then-is_open+else-loop-at-test w ↦ border-none q b l is w.if-is_open.true (λ t h z. w.loop-at.invariant.passed t (omega arith) h z g q)
-          | else-is_open w ↦ border-closed q b l is w.if-is_open.false
+            | then-is_open+else-loop-at-test w ↦ border-none q b l is w.if-is_open.true (λ t h z. w.loop-at.invariant.passed t (omega arith) h z g q)
+            | else-is_open w ↦ border-closed q b l is w.if-is_open.false
           ]),
     )
 

@@ -1,20 +1,16 @@
 -- `border_block` meets its contract: no block passed is a border block, no member passed of the present block is in the
 -- forced-step set, and the moves passed of the present member tell what is known of it.
-use Prim.Native.Nat.{ℕ, suc, ◌-◌, ◌≤◌, ◌<◌}
-use mathlib.Core.Path.{◌≡◌, refl}
+use Prim.Native.Nat.{ℕ, ◌-◌, ◌≤◌, ◌<◌}
+use mathlib.Core.Path.{◌≡◌}
 use mathlib.Core.Bool.{false}
-use mathlib.Core.Logic.{⊎_elim}
-use native.Mathlib.Omega.{arith}
 use lib.ListN.{get_or}
 use Rattle.arena.specs.Sets.{some, bit}
-use Rattle.arena.proofs.Loops.{some-zero, some_still}
 use Rattle.game.specs.declared.Game.{Game}
-use Rattle.game.proofs.Small.{sweep}
 use Rattle.growth.specs.Stamp.{is_in}
 use Rattle.growth.proofs.Seen.{seen}
 use Rattle.rounds.specs.Border.{bordering}
 use Rattle.rounds.specs.Search.{Search}
-use Rattle.rounds.proofs.Searching.{Passed, members_none, members_more, members_less, first-low, to_low, told_none, told_more, told_in, told_out, border-closed, border-none, border-member, Outside, answer-none, answer_found}
+use Rattle.rounds.proofs.Searching.{Passed, Outside}
 use Rattle.rounds.proofs.border_block.Given as goal
 
 abbrev pub invariant-loop-k : goal.invariant-loop-k

@@ -1,11 +1,8 @@
 -- `first_moves` meets its contract: the moves passed have told where the next state's begin.
-use Prim.Native.Nat.{suc, ◌-◌, ◌≤◌}
 use mathlib.Core.Path.{◌≡◌, refl}
 use native.Mathlib.Numerals.{add-one}
 use native.Mathlib.Omega.{arith}
-use lib.ListN.{length, get_or, length-set}
-use Rattle.chains.specs.Lent.{Holds}
-use Rattle.rounds.specs.Search.{first_move}
+use lib.ListN.{length-set}
 use Rattle.rounds.proofs.FirstMoves.{first-none, first_more, nexts}
 use Rattle.rounds.proofs.first_moves.Goals as goal
 

@@ -1,12 +1,9 @@
 -- `first_moves` meets its contract: the moves passed have told where the next state's begin.
 use Prim.Native.Nat.{suc, ◌-◌, ◌≤◌}
-use mathlib.Core.Path.{◌≡◌, refl}
-use native.Mathlib.Numerals.{add-one}
-use native.Mathlib.Omega.{arith}
-use lib.ListN.{length, get_or, length-set}
+use mathlib.Core.Path.{◌≡◌}
+use lib.ListN.{length, get_or}
 use Rattle.chains.specs.Lent.{Holds}
 use Rattle.rounds.specs.Search.{first_move}
-use Rattle.rounds.proofs.FirstMoves.{first-none, first_more, nexts}
 use Rattle.rounds.proofs.first_moves.Given as goal
 
 abbrev pub invariant-loop-k : goal.invariant-loop-k

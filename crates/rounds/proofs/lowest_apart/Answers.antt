@@ -1,14 +1,9 @@
 -- `lowest_apart` meets its contract: no state passed is such a member.
-use Prim.Native.Nat.{◌-◌, ◌≤◌}
-use mathlib.Core.Path.{◌≡◌, refl}
-use mathlib.Core.Bool.{false}
-use mathlib.Core.Logic.{⊎_elim}
+use mathlib.Core.Path.{refl}
 use borrow.Author.Tests.{eq-eqb, ne_eqb}
-use Rattle.arena.specs.Sets.{some}
 use Rattle.arena.proofs.Loops.{some_still}
 use Rattle.arena.proofs.Least.{least_found, least-done}
 use Rattle.game.proofs.Small.{sweep}
-use Rattle.rounds.specs.Renamed.{enough, row_apart}
 use Rattle.rounds.proofs.lowest_apart.Goals as goal
 use Rattle.rounds.proofs.lowest_apart.Goals.{then-block-s+else-have-s, else-block-s}
 
@@ -16,15 +11,14 @@ pub returns-then-have-s : goal.returns-then-have-s
 returns-then-have-s c = least_found _ _ _ c.loop-s-test.true c.loop-s.invariant.1 (rw (eq-eqb _ _ c.if-block-s.true) c.if-have-s.true)
 
 pub loop-s-preserved : goal.loop-s-preserved
-loop-s-preserved c =
-    (
-      search sweep,
-      some_still _ _ _ c.loop-s.invariant.1 refl
-          (elim c.if-block-s.branch [
-            then-block-s+else-have-s w ↦ rw (eq-eqb _ _ w.if-block-s.true) w.if-have-s.false
-          | else-block-s w ↦ rw (ne_eqb _ _ w.if-block-s.false) refl
-          ]),
-    )
+loop-s-preserved c = (
+  search sweep,
+  some_still _ _ _ c.loop-s.invariant.1 refl
+      (elim c.if-block-s.branch [
+        | then-block-s+else-have-s w ↦ rw (eq-eqb _ _ w.if-block-s.true) w.if-have-s.false
+        | else-block-s w ↦ rw (ne_eqb _ _ w.if-block-s.false) refl
+      ]),
+)
 
 pub loop-s-init : goal.loop-s-init
 loop-s-init c = search sweep

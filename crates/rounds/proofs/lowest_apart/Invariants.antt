@@ -1,13 +1,8 @@
 -- `lowest_apart` meets its contract: no state passed is such a member.
 use Prim.Native.Nat.{◌-◌, ◌≤◌}
-use mathlib.Core.Path.{◌≡◌, refl}
+use mathlib.Core.Path.{◌≡◌}
 use mathlib.Core.Bool.{false}
-use mathlib.Core.Logic.{⊎_elim}
-use borrow.Author.Tests.{eq-eqb, ne_eqb}
 use Rattle.arena.specs.Sets.{some}
-use Rattle.arena.proofs.Loops.{some_still}
-use Rattle.arena.proofs.Least.{least_found, least-done}
-use Rattle.game.proofs.Small.{sweep}
 use Rattle.rounds.specs.Renamed.{enough, row_apart}
 use Rattle.rounds.proofs.lowest_apart.Given as goal
 

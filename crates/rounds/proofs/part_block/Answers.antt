@@ -3,7 +3,6 @@ use mathlib.Core.Path.{◌≡◌, refl}
 use mathlib.Core.Bool.{Bool, true, false, not, cond}
 use Prim.Native.Nat.{ℕ}
 use native.Mathlib.Omega.{arith}
-use borrow.Author.Rules.{rules}
 use lib.ListN.{get_or, length-set}
 use Rattle.growth.proofs.Members.{none_below_one, none-below-two, parted, hits_parted}
 use Rattle.rounds.specs.Renamed.{enough}

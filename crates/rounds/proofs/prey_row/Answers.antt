@@ -1,15 +1,13 @@
 -- `prey_row` meets its contract: the places passed tell the prey.
-use Prim.Native.Nat.{◌-◌, ◌≤◌, ◌<◌}
-use mathlib.Core.Path.{◌≡◌, ap, ◌∙◌}
+use Prim.Native.Nat.{◌<◌}
+use mathlib.Core.Path.{ap, ◌∙◌}
 use native.Mathlib.Omega.{arith}
 use lib.ListN.{length, get_or}
 use Rattle.arena.specs.Sets.{bit}
 use Rattle.game.specs.Limits.{max_states}
-use Rattle.game.specs.Rows.{fill, blank, zeros}
+use Rattle.game.specs.Rows.{blank, zeros}
 use Rattle.game.specs.Game.{marked}
-use Rattle.game.specs.Published.{goal_of}
 use Rattle.game.proofs.Rows.{fill_none, fill_store, zeros-length}
-use Rattle.blocks.specs.Hunt.{prey}
 use Rattle.game.proofs.Small.{sweep}
 use Rattle.rounds.proofs.Prey.{prey_is}
 use Rattle.rounds.proofs.prey_row.Goals as goal

@@ -1,13 +1,8 @@
 -- `rename_apart` meets its contract: the places passed have the new blocks, the others the old ones.
 use Prim.Native.Nat.{◌-◌, ◌≤◌}
-use mathlib.Core.Path.{◌≡◌, refl}
-use mathlib.Core.Bool.{cond, not, ◌&&◌, beq}
-use native.Mathlib.Omega.{arith}
-use lib.ListN.{length, length-set}
-use lib.Dec.{eqb}
+use mathlib.Core.Path.{◌≡◌}
+use lib.ListN.{length}
 use Rattle.game.specs.Rows.{fill}
-use Rattle.game.proofs.Rows.{fill_none, fill_done}
-use Rattle.chains.proofs.Filling.{places, filled, change_more}
 use Rattle.rounds.specs.Renamed.{enough, after_split}
 use Rattle.rounds.proofs.rename_apart.Given as goal
 

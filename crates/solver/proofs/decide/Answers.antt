@@ -1,5 +1,4 @@
 -- `decide` meets its contract.
-use borrow.Author.Rules.{rules}
 use Rattle.solver.proofs.Marks.{decided_no, decided_open, decided_yes}
 use Rattle.solver.proofs.decide.Goals as goal
 

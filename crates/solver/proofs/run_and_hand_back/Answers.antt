@@ -1,5 +1,4 @@
 -- `run_and_hand_back` meets its contract.
-use borrow.Author.Rules.{rules}
 use Rattle.runs.specs.Run.{lowest_first, run}
 use Rattle.solver.proofs.Rowed.{finished, handed_back}
 use Rattle.solver.proofs.run_and_hand_back.Goals as goal
@@ -8,7 +7,7 @@ pub run_rounds-ran-requires : goal.run_rounds-ran-requires
 run_rounds-ran-requires c = c.requires.present
 
 pub hand_back-requires : goal.hand_back-requires
-hand_back-requires c = 
+hand_back-requires c =
     record {
       finished = ((run lowest_first c.args.allowance c.requires.present.0).last, finished (c.run_rounds-ran.ensures c.requires.present.0 c.requires.present.1));
       room = c.requires.room;

@@ -1,7 +1,6 @@
 -- `solve_game` meets its contract.
 use mathlib.Core.Path.{refl, sym}
 use native.Mathlib.Omega.{arith}
-use borrow.Author.Rules.{rules}
 use Rattle.game.specs.Limits.{max_states}
 use Rattle.game.specs.Rows.{blank}
 use Rattle.file.proofs.Sound.{accepted_sound}

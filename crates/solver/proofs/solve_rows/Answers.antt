@@ -1,6 +1,5 @@
 -- `solve_rows` meets its contract.
 use native.Mathlib.Omega.{arith}
-use borrow.Author.Rules.{rules}
 use Rattle.game.specs.Rows.{blank}
 use Rattle.chains.proofs.Filling.{holds_zeros}
 use Rattle.solver.proofs.Rowed.{few-states, few-moves, froms, tos, presented}
@@ -24,7 +23,7 @@ first_moves-requires c = (let a = c.requires.apart.1 in (few-states a, few-moves
 
 pub run_and_hand_back-requires : goal.run_and_hand_back-requires
 unfolding blank
-run_and_hand_back-requires c = 
+run_and_hand_back-requires c =
     record {
       present = (c.requires.apart.0, presented c.requires.apart.1 c.link.ensures c.count_keys.ensures c.need_row.ensures c.first_moves.ensures);
       room = c.requires.room;

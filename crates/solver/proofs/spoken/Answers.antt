@@ -1,6 +1,5 @@
 -- `spoken` meets its contract.
 use mathlib.Core.Path.{sym, ap}
-use borrow.Author.Rules.{rules}
 use Rattle.solver.specs.declared.Decision.{Decision}
 use Rattle.solver.specs.Solve.{said}
 use Rattle.solver.proofs.spoken.Goals as goal

@@ -1,6 +1,5 @@
 -- `decode_again` meets its contract.
 use mathlib.Core.Path.{sym, ◌∙◌}
-use borrow.Author.Rules.{rules}
 use Rattle.demands.proofs.again.decode_again.Goals as goal
 
 pub returns : goal.returns

@@ -1,6 +1,5 @@
 -- `exchange_again` meets its contract.
 use mathlib.Core.Path.{sym, ap, ◌∙◌}
-use borrow.Author.Rules.{rules}
 use Rattle.exchange.specs.Exchange.{exchanged}
 use Rattle.demands.proofs.again.exchange_again.Goals as goal
 

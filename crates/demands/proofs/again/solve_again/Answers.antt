@@ -1,6 +1,5 @@
 -- `solve_again` meets its contract.
 use mathlib.Core.Path.{sym, ap, ◌∙◌}
-use borrow.Author.Rules.{rules}
 use Rattle.solver.specs.Solve.{solved}
 use Rattle.demands.proofs.again.solve_again.Goals as goal
 

@@ -1,6 +1,5 @@
 -- `c_solve_as_promised` meets its contract.
 use mathlib.Core.Path.{refl, sym}
-use borrow.Author.Rules.{rules}
 use Rattle.demands.proofs.Calls.{solve_promise}
 use Rattle.demands.proofs.c_calls.c_solve_as_promised.Goals as goal
 

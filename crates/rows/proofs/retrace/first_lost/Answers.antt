@@ -1,16 +1,13 @@
 -- `first_lost` meets its contract: no round below `low` is lost, and round `high` is.
-use Prim.Native.Nat.{ℕ, ◌-◌, ◌≤◌}
+use Prim.Native.Nat.{ℕ}
 use mathlib.Core.Path.{◌≡◌, refl, sym, ◌∙◌}
 use mathlib.Core.List.{List}
 use native.Mathlib.Omega.{arith}
 use borrow.Author.Rules.{rules}
-use lib.ListN.{length, get_or}
-use Rattle.game.specs.Game.{block_at}
+use lib.ListN.{get_or}
 use Rattle.chains.specs.Lent.{Holds}
 use Rattle.chains.proofs.Counts.{holds_cong}
 use Rattle.runs.specs.Run.{lowest_first, round}
-use Rattle.runs.specs.First.{Bisecting}
-use Rattle.rows.specs.RoundRows.{Retracing}
 use Rattle.runs.proofs.First.{bisect_left, bisect_right}
 use Rattle.rows.proofs.Present.{few-states}
 use Rattle.rows.proofs.Splitting.{present-round}

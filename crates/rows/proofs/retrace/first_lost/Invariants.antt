@@ -1,19 +1,12 @@
 -- `first_lost` meets its contract: no round below `low` is lost, and round `high` is.
-use Prim.Native.Nat.{ℕ, ◌-◌, ◌≤◌}
-use mathlib.Core.Path.{◌≡◌, refl, sym, ◌∙◌}
-use mathlib.Core.List.{List}
-use native.Mathlib.Omega.{arith}
-use borrow.Author.Rules.{rules}
-use lib.ListN.{length, get_or}
+use Prim.Native.Nat.{◌-◌, ◌≤◌}
+use mathlib.Core.Path.{◌≡◌}
+use lib.ListN.{length}
 use Rattle.game.specs.Game.{block_at}
 use Rattle.chains.specs.Lent.{Holds}
-use Rattle.chains.proofs.Counts.{holds_cong}
 use Rattle.runs.specs.Run.{lowest_first, round}
 use Rattle.runs.specs.First.{Bisecting}
 use Rattle.rows.specs.RoundRows.{Retracing}
-use Rattle.runs.proofs.First.{bisect_left, bisect_right}
-use Rattle.rows.proofs.Present.{few-states}
-use Rattle.rows.proofs.Splitting.{present-round}
 use Rattle.rows.proofs.retrace.first_lost.Given as goal
 
 abbrev pub invariant-loop-low : goal.invariant-loop-low

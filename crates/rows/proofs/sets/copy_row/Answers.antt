@@ -1,9 +1,7 @@
 -- `copy_row` meets its contract: the places passed are copied.
-use Prim.Native.Nat.{◌-◌, ◌≤◌}
-use mathlib.Core.Path.{◌≡◌, refl}
+use mathlib.Core.Path.{refl}
 use native.Mathlib.Omega.{arith}
-use lib.ListN.{length, get_or, length-set}
-use Rattle.chains.specs.Lent.{Holds}
+use lib.ListN.{length-set}
 use Rattle.chains.proofs.Filling.{places, holds_none, holds_more, holds_done}
 use Rattle.rows.proofs.sets.copy_row.Goals as goal
 

@@ -1,10 +1,8 @@
 -- `copy_row` meets its contract: the places passed are copied.
 use Prim.Native.Nat.{◌-◌, ◌≤◌}
-use mathlib.Core.Path.{◌≡◌, refl}
-use native.Mathlib.Omega.{arith}
-use lib.ListN.{length, get_or, length-set}
+use mathlib.Core.Path.{◌≡◌}
+use lib.ListN.{length, get_or}
 use Rattle.chains.specs.Lent.{Holds}
-use Rattle.chains.proofs.Filling.{places, holds_none, holds_more, holds_done}
 use Rattle.rows.proofs.sets.copy_row.Given as goal
 
 abbrev pub invariant-loop-s : goal.invariant-loop-s

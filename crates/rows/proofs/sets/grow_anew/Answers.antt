@@ -1,6 +1,5 @@
 -- `grow_anew` meets its contract.
 use Prim.Native.Nat.{ℕ, ◌≤◌}
-use mathlib.Core.Path.{◌∙◌}
 use mathlib.Core.List.{List}
 use Rattle.game.specs.Limits.{max_states}
 use Rattle.game.specs.declared.Game.{Game}
@@ -23,7 +22,7 @@ pub list_states-tail-requires : goal.list_states-tail-requires
 list_states-tail-requires c = ((sound-few c.requires.lent.2, c.requires.linked.6, c.requires.linked.7))
 
 pub grow-requires : goal.grow-requires
-grow-requires c = 
+grow-requires c =
     record {
       lent = c.requires.lent;
       linked = (c.requires.linked.0, c.gather.ensures, c.requires.linked.5, counted_none _ _ _ _ c.clear.ensures c.list_states-tail.ensures c.requires.linked.6);

@@ -1,6 +1,5 @@
 -- `split_round` meets its contract.
 use native.Mathlib.Omega.{arith}
-use borrow.Author.Rules.{rules}
 use Rattle.runs.specs.Run.{lowest_first, split_game}
 use Rattle.rows.proofs.Present.{lent, few-states, names}
 use Rattle.rows.proofs.Splitting.{hits_have, both_parts, inner_small, inner-due, next-blocks, next-present, next-lowered}

@@ -1,15 +1,12 @@
 -- `earlier_blocks` meets its contract: whichever game the log is of, the row has the blocks of round k.
 use Prim.Native.Nat.{ℕ, ◌-◌, ◌≤◌}
-use mathlib.Core.Path.{◌≡◌, refl, ◌∙◌}
-use native.Mathlib.Omega.{arith}
+use mathlib.Core.Path.{◌≡◌}
 use lib.ListN.{length}
 use Rattle.game.specs.Game.{block_at}
 use Rattle.game.specs.declared.Game.{Game}
 use Rattle.chains.specs.Lent.{Holds}
-use Rattle.chains.proofs.Filling.{places}
 use Rattle.runs.specs.Run.{lowest_first, round}
 use Rattle.runs.specs.Log.{Log}
-use Rattle.runs.proofs.Undone.{log-undo}
 use Rattle.runs.proofs.log.earlier_blocks.Given as goal
 
 abbrev pub invariant-loop-k : goal.invariant-loop-k

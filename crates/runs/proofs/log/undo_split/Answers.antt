@@ -1,11 +1,9 @@
 -- `undo_split` meets its contract: the places passed have the blocks before the split, the others those after it.
-use Prim.Native.Nat.{◌-◌, ◌≤◌}
-use mathlib.Core.Path.{◌≡◌, refl}
+use mathlib.Core.Path.{refl}
 use mathlib.Core.Bool.{cond}
 use native.Mathlib.Omega.{arith}
-use lib.ListN.{length, get_or, length-set}
+use lib.ListN.{length-set}
 use lib.Dec.{eqb}
-use Rattle.game.specs.Rows.{fill}
 use Rattle.game.proofs.Rows.{fill_none, fill_done}
 use Rattle.chains.proofs.Filling.{places, filled, change_more}
 use Rattle.runs.proofs.log.undo_split.Goals as goal

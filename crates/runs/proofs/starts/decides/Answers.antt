@@ -1,6 +1,6 @@
 -- `decides` meets its contract.
 use mathlib.Core.Path.{refl, sym, ◌∙◌}
-use Rattle.arena.proofs.Choices.{choices, and_pass, and_stop}
+use Rattle.arena.proofs.Choices.{and_pass, and_stop}
 use Rattle.runs.proofs.starts.decides.Goals as goal
 
 pub returns-then-has_mark : goal.returns-then-has_mark

@@ -1,15 +1,7 @@
 -- `has_way` meets its contract: no start passed so far decides.
-use Prim.Native.Nat.{◌-◌, ◌≤◌}
-use mathlib.Core.Path.{◌≡◌}
-use mathlib.Core.Bool.{false}
 use native.Mathlib.Omega.{arith}
-use lib.ListN.{get_or}
-use lib.Dec.{eqb}
-use Rattle.arena.specs.Sets.{some}
-use Rattle.game.specs.Game.{marked}
-use Rattle.growth.specs.Stamp.{is_in}
 use Rattle.chains.proofs.Filling.{places}
-use Rattle.runs.proofs.Deciding.{deciding, way_decided, way-undecided}
+use Rattle.runs.proofs.Deciding.{way_decided, way-undecided}
 use Rattle.runs.proofs.starts.has_way.Goals as goal
 
 pub returns-then-decides : goal.returns-then-decides

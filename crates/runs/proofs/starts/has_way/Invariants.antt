@@ -2,14 +2,12 @@
 use Prim.Native.Nat.{◌-◌, ◌≤◌}
 use mathlib.Core.Path.{◌≡◌}
 use mathlib.Core.Bool.{false}
-use native.Mathlib.Omega.{arith}
 use lib.ListN.{get_or}
 use lib.Dec.{eqb}
 use Rattle.arena.specs.Sets.{some}
 use Rattle.game.specs.Game.{marked}
 use Rattle.growth.specs.Stamp.{is_in}
-use Rattle.chains.proofs.Filling.{places}
-use Rattle.runs.proofs.Deciding.{deciding, way_decided, way-undecided}
+use Rattle.runs.proofs.Deciding.{deciding}
 use Rattle.runs.proofs.starts.has_way.Given as goal
 
 abbrev pub invariant-loop-s : goal.invariant-loop-s

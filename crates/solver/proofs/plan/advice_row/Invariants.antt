@@ -1,15 +1,9 @@
 -- `advice_row` meets its contract.
-use native.Mathlib.Omega.{arith}
-use mathlib.Core.Path.{◌≡◌, refl, sym, ◌∙◌}
-use Prim.Native.Nat.{◌-◌, ◌≤◌, ◌<◌}
+use Prim.Native.Nat.{◌-◌, ◌≤◌}
 use lib.ListN.{get_or}
 use Rattle.game.specs.Limits.{max_states}
-use Rattle.game.specs.Rows.{blank, Cells}
-use Rattle.game.proofs.Rows.{cells_store, blank-length, blank_at}
-use Rattle.chains.proofs.Filling.{places}
-use Rattle.arena.specs.Plan.{no_move}
+use Rattle.game.specs.Rows.{Cells}
 use Rattle.solver.specs.Work.{lowest_good}
-use Rattle.solver.proofs.Advice.{good_none, good_more, good_same}
 use Rattle.solver.proofs.plan.advice_row.Given as goal
 
 abbrev pub invariant-loop-k : goal.invariant-loop-k

@@ -1,7 +1,6 @@
 -- `plan_row` meets its contract.
 use mathlib.Core.Path.{ap, ◌∙◌}
 use native.Mathlib.Omega.{arith}
-use borrow.Author.Rules.{rules}
 use Rattle.game.specs.Limits.{max_states}
 use Rattle.game.specs.Rows.{blank}
 use Rattle.game.proofs.Rows.{blank_at}

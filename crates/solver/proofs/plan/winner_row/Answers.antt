@@ -1,7 +1,6 @@
 -- `winner_row` meets its contract.
 use mathlib.Core.Path.{sym, ap, ◌∙◌}
 use native.Mathlib.Omega.{arith}
-use borrow.Author.Rules.{rules}
 use Rattle.game.specs.Published.{side_of}
 use Rattle.solver.proofs.Plans.{walk-safe, winner_chases, winner_flees, hunted}
 use Rattle.solver.proofs.plan.winner_row.Goals as goal

@@ -1,14 +1,11 @@
 -- `lowest_start` meets its contract.
-use native.Mathlib.Omega.{arith}
-use mathlib.Core.Path.{◌≡◌, sym, ◌∙◌}
+use mathlib.Core.Path.{◌≡◌}
 use mathlib.Core.Bool.{false, ◌&&◌}
 use Prim.Native.Nat.{◌-◌, ◌≤◌}
 use lib.ListN.{get_or}
 use lib.Dec.{leb}
 use Rattle.arena.specs.Sets.{some}
-use Rattle.arena.proofs.Least.{least_found, least-done}
 use Rattle.game.specs.Game.{marked}
-use Rattle.game.proofs.Small.{sweep}
 use Rattle.solver.proofs.written.lowest_start.Given as goal
 
 abbrev pub invariant-loop-s : goal.invariant-loop-s

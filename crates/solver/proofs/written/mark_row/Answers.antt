@@ -1,13 +1,9 @@
 -- `mark_row` meets its contract.
 use native.Mathlib.Omega.{arith}
-use mathlib.Core.Path.{◌≡◌}
-use Prim.Native.Nat.{◌-◌, ◌≤◌}
-use lib.ListN.{get_or}
 use Rattle.game.specs.Limits.{max_states}
-use Rattle.game.specs.Rows.{fill, blank, zeros}
+use Rattle.game.specs.Rows.{blank, zeros}
 use Rattle.game.proofs.Small.{sweep}
 use Rattle.game.proofs.Rows.{fill_none, fill_store, fill_done, zeros-length}
-use Rattle.solver.specs.Work.{mark_no}
 use Rattle.solver.proofs.written.mark_row.Goals as goal
 
 pub loop-s-init : goal.loop-s-init

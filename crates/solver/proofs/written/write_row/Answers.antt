@@ -1,9 +1,6 @@
 -- `write_row` meets its contract.
 use native.Mathlib.Omega.{arith}
-use mathlib.Core.Path.{◌≡◌, refl}
-use Prim.Native.Nat.{◌-◌, ◌≤◌}
-use lib.ListN.{length, get_or}
-use Rattle.game.specs.Rows.{fill}
+use mathlib.Core.Path.{refl}
 use Rattle.game.proofs.Rows.{walk, fill_none, fill_store, fill_done}
 use Rattle.solver.proofs.written.write_row.Goals as goal
 

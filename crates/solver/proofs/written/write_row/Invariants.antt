@@ -1,10 +1,8 @@
 -- `write_row` meets its contract.
-use native.Mathlib.Omega.{arith}
-use mathlib.Core.Path.{◌≡◌, refl}
+use mathlib.Core.Path.{◌≡◌}
 use Prim.Native.Nat.{◌-◌, ◌≤◌}
 use lib.ListN.{length, get_or}
 use Rattle.game.specs.Rows.{fill}
-use Rattle.game.proofs.Rows.{walk, fill_none, fill_store, fill_done}
 use Rattle.solver.proofs.written.write_row.Given as goal
 
 abbrev pub invariant-loop-s : goal.invariant-loop-s
