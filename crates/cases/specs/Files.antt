@@ -139,5 +139,5 @@ unfoldable pub long_head : List ℕ
 long_head = 9 ∷ 0 ∷ 1 ∷ 0 ∷ []
 
 -- three states in a row: the plan needs states minus 1 moves
-unfoldable pub three_in_aRow : List ℕ
-three_in_aRow = head_record 3 3 1 ++ state_record 1 1 0 ++ state_record 1 0 1 ++ state_record 1 2 2 ++ move_record 0 1 ++ move_record 1 2 ++ move_record 2 2
+unfoldable pub three_in_a_row : List ℕ
+three_in_a_row = head_record 3 3 1 ++ state_record 1 1 0 ++ state_record 1 0 1 ++ state_record 1 2 2 ++ move_record 0 1 ++ move_record 1 2 ++ move_record 2 2

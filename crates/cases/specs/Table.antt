@@ -7,7 +7,7 @@ use Rattle.file.specs.Layout.{states}
 use Rattle.solver.specs.Solve.{Rows, Outcome, solved}
 use Rattle.solver.specs.declared.Verdict.{Verdict}
 use Rattle.solver.specs.declared.Verdict.TheVariants.{Yes, No, Open, Refused}
-use Rattle.cases.specs.Files.{game_m, game_p3, game_p4, game_p5, game_p6, game_p7, game_p8, game_p9, empty_file, head_alone, two_borders, two_starts, block_of_three, open_under_yes_stay, open_under_no_reach, open_under_no_stay, mixed_block, no_start, mixed_and_stuck, no_start_and_more, bad_turn_and_more, two_bad_records, bad_head_and_turn, state_for_move, long_head, three_in_aRow}
+use Rattle.cases.specs.Files.{game_m, game_p3, game_p4, game_p5, game_p6, game_p7, game_p8, game_p9, empty_file, head_alone, two_borders, two_starts, block_of_three, open_under_yes_stay, open_under_no_reach, open_under_no_stay, mixed_block, no_start, mixed_and_stuck, no_start_and_more, bad_turn_and_more, two_bad_records, bad_head_and_turn, state_for_move, long_head, three_in_a_row}
 
 -- the bytes of a file, an allowance, and how many places each lent row has
 pub record Case : Type 0 where
@@ -72,5 +72,5 @@ lines =
     ∷ line bad_head_and_turn 511 512 (Refused 4) (7 ∷ []) (7 ∷ []) (7 ∷ [])
     ∷ line state_for_move 511 512 (Refused 3) (7 ∷ []) (7 ∷ []) (7 ∷ [])
     ∷ line long_head 511 512 (Refused 3) [] [] []
-    ∷ line three_in_aRow 511 512 (Yes (state_no 0) 0) (2 ∷ 2 ∷ 2 ∷ []) (0 ∷ 1 ∷ 2 ∷ []) (1 ∷ 2 ∷ no_move ∷ [])
+    ∷ line three_in_a_row 511 512 (Yes (state_no 0) 0) (2 ∷ 2 ∷ 2 ∷ []) (0 ∷ 1 ∷ 2 ∷ []) (1 ∷ 2 ∷ no_move ∷ [])
     ∷ []

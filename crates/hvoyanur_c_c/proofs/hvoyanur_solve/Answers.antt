@@ -1,0 +1,11 @@
+-- `hvoyanur_solve` meets its contract.
+use mathlib.Core.Path.{refl, sym}
+use Rattle.demands.proofs.Calls.{solve_promise}
+use Rattle.hvoyanur_c_c.proofs.hvoyanur_solve.Goals as goal
+
+pub returns : goal.returns
+returns c =
+    record {
+      returned = c.hvoyanur_solve.ensures;
+      promised = (_, sym c.hvoyanur_solve.ensures, solve_promise _ _ _ _ refl);
+    }
