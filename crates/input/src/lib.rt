@@ -17,7 +17,8 @@ pub fn large_buffer() -> [u8; 65536]
 }
 
 // Reads until `room` is full or the input ends, and answers how many bytes stand at the start of `room`. With `in_bounds` and
-// `taken`, `&room[..n]` is proved with no proof file. What was read before a failure stands at the start of `room` too.
+// `taken`, `&room[..n]` is proved with no proof file. What was read before a failure stands at the start of `room` too, as `failed`
+// says of a reader whose bytes are known.
 pub fn read_full<R: Read>(from: &mut R, room: &mut [u8]) -> io::Result<usize>
     ensures in_bounds { IfOk result (λ n. n ≤ length room.new) }
     ensures taken { IfOk result (λ n. n ≡ length (take n room.new)) }

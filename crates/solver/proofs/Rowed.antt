@@ -10,7 +10,7 @@ use Rattle.arena.specs.Sets.{Set, bit}
 use Rattle.game.specs.Limits.{max_states, max_moves}
 use Rattle.game.specs.Game.{known_turn, marked, turn_at, from_at}
 use Rattle.game.specs.Published.{side_of, goal_of}
-use Rattle.file.specs.Layout.{states, moves, objective as objective_of, turn as turn_of, marks as marksOf, block as block_of, from as fromOf, to as toOf}
+use Rattle.file.specs.Layout.{states, moves, objective as objective_of, turn as turn_of, marks as marks_of, block as block_of, from as from_of, to as to_of}
 use Rattle.file.specs.Refusals.{refusal}
 use Rattle.file.proofs.Sound.{accepted_sound}
 use Rattle.decoding.specs.Decode.{game_of}
@@ -38,7 +38,7 @@ prey-same to_stay X Y s e = ap not e
 -- the rows of an accepted file's game, as they were read
 pub read_apart : (f : List ℕ) → refusal f ≡ 0 → {side n m objective : ℕ} → n ≡ states f → m ≡ moves f → objective ≡ objective_of f
     → side_of side ≡ hunter (goal_of objective) → T (known_turn side) → {turn starts block from to first-row : List ℕ}
-    → Holds n turn (turn_of f) → Holds n starts (marksOf f) → Holds n block (block_of f) → Holds m from (fromOf f) → Holds m to (toOf f)
+    → Holds n turn (turn_of f) → Holds n starts (marks_of f) → Holds n block (block_of f) → Holds m from (from_of f) → Holds m to (to_of f)
     → Holds n first-row (λ s. bit (prey (goal_of objective) (λ t. marked 2 (get_or starts t 0)) s))
     → Apart (game_of f) side n m objective turn starts from to first-row block
 unfolding game_of
