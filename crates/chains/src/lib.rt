@@ -1,19 +1,22 @@
 // Rows of plain numbers, and chains of the places of a row that hold the same number.
 #![tactic(auto)]
 
+pub mod rows;
+
 ghost use Rattle.std.specs.Prelude.{◌≡◌, cond, ℕ, ◌≤◌, ◌<◌, length, get_or, eqb};
 ghost use Rattle.game.specs.Limits.{max_states, max_moves};
-ghost use Rattle.chains.specs.Lent.{Holds, Keys, many_of, last_below, Linked, rechained, Gathered};
+ghost use Rattle.chains.specs.Lent.{Holds, Keys, many_of, last_below, Linked, rechained};
+ghost use Rattle.chains.specs.Grouped.{Roomy, MembersOf};
+
+use rows::Members;
 
 // Writes 0 into the first n places.
 pub fn clear(n: usize, row: &mut [u16])
     requires { n ≤ length row.old }
     ensures { Holds n row.new (λ _. 0) }
 {
-    let mut s: usize = 0;
-    while s < n {
+    for s in 0..n {
         row[s] = 0;
-        s += 1;
     }
 }
 
@@ -22,11 +25,9 @@ pub fn count_keys(n: usize, m: usize, key: &[u16], out: &mut [u16])
     requires { (n ≤ max_states) × (m ≤ max_moves) × Keys n m key.now × Holds n out.old (λ _. 0) }
     ensures { Holds n out.new (many_of m key.now) }
 {
-    let mut k: usize = 0;
-    while k < m {
+    for k in 0..m {
         let c = key[k] as usize;
-        out[c] = out[c] + 1;
-        k += 1;
+        out[c] += 1;
     }
 }
 
@@ -35,25 +36,23 @@ pub fn link(n: usize, m: usize, key: &[u16], last: &mut [u16], before: &mut [u16
     requires { (n ≤ max_states) × (m ≤ max_moves) × Keys n m key.now × (m ≤ length before.old) × Holds n last.old (λ _. 0) }
     ensures { Linked n m key.now last.new before.new }
 {
-    let mut k: usize = 0;
-    while k < m {
+    for k in 0..m {
         let c = key[k] as usize;
         before[k] = last[c];
         last[c] = (k + 1) as u16;
-        k += 1;
     }
 }
 
 // The members of each block as chains, and how many there are: the last member of each block and the one before each
 // member, counted from 1; 0 for none.
-pub fn gather(n: usize, block: &[u16], last: &mut [u16], before: &mut [u16], size: &mut [u16])
-    requires { (n ≤ max_states) × Keys n n block.now × (n ≤ length last.old) × (n ≤ length before.old) × (n ≤ length size.old) }
-    ensures { Gathered n block.now last.new before.new size.new }
+pub fn gather(n: usize, block: &[u16], members: &mut Members<'_>)
+    requires { (n ≤ max_states) × Keys n n block.now × Roomy n members.old }
+    ensures { MembersOf n block.now members.new }
 {
-    clear(n, last);
-    link(n, n, block, last, before);
-    clear(n, size);
-    count_keys(n, n, block, size);
+    clear(n, members.last);
+    link(n, n, block, members.last, members.before);
+    clear(n, members.size);
+    count_keys(n, n, block, members.size);
 }
 
 // The chain of the members of one block: its last member, counted from 1, and how many there are.
@@ -71,14 +70,12 @@ pub fn relink(n: usize, b: usize, block: &[u16], before: &mut [u16]) -> Chain
     let name = b as u16;
     let mut last: u16 = 0;
     let mut size: u16 = 0;
-    let mut s: usize = b;
-    while s < n {
+    for s in b..n {
         if block[s] == name {
             before[s] = last;
             last = (s + 1) as u16;
             size += 1;
         }
-        s += 1;
     }
     Chain { last, size }
 }
@@ -98,9 +95,7 @@ pub fn need_row(n: usize, turn: &[u8], side: u8, need: &mut [u16])
     requires { (n ≤ max_states) × (n ≤ length turn.now) × (n ≤ length need.old) }
     ensures { Holds n need.new (λ s. cond (eqb (get_or turn.now s 0) side) 1 (get_or need.old s 0)) }
 {
-    let mut s: usize = 0;
-    while s < n {
+    for s in 0..n {
         need[s] = needed(turn[s] == side, need[s]);
-        s += 1;
     }
 }

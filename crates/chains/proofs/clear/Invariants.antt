@@ -8,6 +8,3 @@ use Rattle.chains.proofs.clear.Given as goal
 abbrev pub invariant-loop-s : goal.invariant-loop-s
 invariant-loop-s l =
     (l.s ≤ l.n) × Holds l.s l.row (λ _. 0) × (length l.row ≡ length l.initial.row)
-
-abbrev pub decreases-loop-s : goal.decreases-loop-s
-decreases-loop-s l = l.n - l.s

@@ -8,6 +8,3 @@ use Rattle.chains.proofs.count_keys.Given as goal
 abbrev pub invariant-loop-k : goal.invariant-loop-k
 invariant-loop-k l =
     (l.k ≤ l.m) × Holds l.n l.out (many_of l.k l.key) × (length l.out ≡ length l.initial.out)
-
-abbrev pub decreases-loop-k : goal.decreases-loop-k
-decreases-loop-k l = l.m - l.k

@@ -8,6 +8,3 @@ use Rattle.chains.proofs.link.Given as goal
 abbrev pub invariant-loop-k : goal.invariant-loop-k
 invariant-loop-k l =
     (l.k ≤ l.m) × Holds l.n l.last (last_below l.key l.k) × Holds l.k l.before (λ j. last_below l.key j (get_or l.key j 0)) × (length l.last ≡ length l.initial.last) × (length l.before ≡ length l.initial.before)
-
-abbrev pub decreases-loop-k : goal.decreases-loop-k
-decreases-loop-k l = l.m - l.k

@@ -10,6 +10,3 @@ use Rattle.chains.proofs.need_row.Given as goal
 abbrev pub invariant-loop-s : goal.invariant-loop-s
 invariant-loop-s l =
     (l.s ≤ l.n) × (l.need ≡ fill l.s (λ t. cond (eqb (get_or l.turn t 0) l.side) 1 (get_or l.initial.need t 0)) l.initial.need) × (length l.need ≡ length l.initial.need)
-
-abbrev pub decreases-loop-s : goal.decreases-loop-s
-decreases-loop-s l = l.n - l.s

@@ -33,12 +33,6 @@ overflow_cast-last c = omega (arith, c.requires.0, c.loop-s-test.true)
 pub overflow_add-size : goal.overflow_add-size
 overflow_add-size c = omega (arith, c.requires.0, c.loop-s-test.true, chain_few c.args.block.now c.args.b c.args.before.now c.loop-s.invariant.1)
 
-pub overflow_add-s : goal.overflow_add-s
-overflow_add-s c = omega (arith, c.requires.0, c.loop-s-test.true)
-
-pub loop-s-smaller : goal.loop-s-smaller
-loop-s-smaller c = omega (arith, c.requires.0, c.loop-s-test.true)
-
 pub loop-s-preserved : goal.loop-s-preserved
 loop-s-preserved c =
     let inv = c.loop-s.invariant in

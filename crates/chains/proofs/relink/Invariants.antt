@@ -8,6 +8,3 @@ use Rattle.chains.proofs.relink.Given as goal
 abbrev pub invariant-loop-s : goal.invariant-loop-s
 invariant-loop-s l =
     (l.s ≤ l.n) × Chained l.block l.b l.initial.before l.n l.s l.last l.size l.before × (length l.before ≡ length l.initial.before)
-
-abbrev pub decreases-loop-s : goal.decreases-loop-s
-decreases-loop-s l = l.n - l.s
