@@ -2,8 +2,8 @@
 use Rattle.std.specs.Prelude.{ℕ, ◌≤◌, List, length}
 use Rattle.game.specs.declared.Game.{Game}
 use Rattle.chains.specs.Lent.{Linked, Gathered, Lent}
-use Rattle.chains.specs.declared.rows.Moves.{Moves}
-use Rattle.chains.specs.declared.rows.Members.{Members}
+use Rattle.chains.specs.declared.lent.Moves.{Moves}
+use Rattle.chains.specs.declared.lent.Members.{Members}
 
 -- the moves of a game with these blocks, seen by the side
 abbrev pub MovesOf : Game → ℕ → Moves → List ℕ → Type 0

@@ -1,14 +1,14 @@
 // Rows of plain numbers, and chains of the places of a row that hold the same number.
 #![tactic(auto)]
 
-pub mod rows;
+pub mod lent;
 
 ghost use Rattle.std.specs.Prelude.{◌≡◌, cond, ℕ, ◌≤◌, ◌<◌, length, get_or, eqb};
 ghost use Rattle.game.specs.Limits.{max_states, max_moves};
 ghost use Rattle.chains.specs.Lent.{Holds, Keys, many_of, last_below, Linked, rechained};
 ghost use Rattle.chains.specs.Grouped.{Roomy, MembersOf};
 
-use rows::Members;
+use lent::Members;
 
 // Writes 0 into the first n places.
 pub fn clear(n: usize, row: &mut [u16])
