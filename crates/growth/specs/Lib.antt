@@ -1,3 +1,4 @@
 pub mod Stamp
 pub mod Net
 pub mod Queue
+pub mod Grouped

@@ -8,10 +8,13 @@ ghost use Rattle.game.specs.Limits.{max_states};
 ghost use Rattle.game.specs.declared.Game.{Game};
 ghost use Rattle.growth.specs.Stamp.{pass_at, stamp_from, joining};
 ghost use Rattle.chains.specs.Lent.{Holds, Keys, Linked, Gathered, Lent};
+ghost use Rattle.chains.specs.Grouped.{MovesOf, Chained, MembersOf};
+ghost use Rattle.growth.specs.Grouped.{net_of, CountedIn, GrownBy, RegrowingBy};
 ghost use Rattle.growth.specs.Net.{net, Sound, hits_of, ripe_by, pass_of};
 ghost use Rattle.growth.specs.Queue.{Listed, Counted, Joined, Alike, Handled, Passing, Grown, Regrowing};
 
 use chains::clear;
+use chains::lent::{Members, Moves};
 
 // Puts the states of the row into the queue. The end of the queue.
 pub fn list_states(n: usize, row: &[u16], queue: &mut [u16]) -> usize
@@ -243,7 +246,7 @@ fn run_passes(
 
 // Grows the row's set over the present blocks until a pass adds nothing, by whole blocks or by blocks that meet. The queue
 // lists the set, and the moves into its first `handled` states are counted. The new end of the queue.
-pub fn grow(
+fn grow_rows(
     n: usize,
     m: usize,
     whole: bool,
@@ -307,7 +310,7 @@ pub fn grow(
 
 // Grows a set on that had grown by whole blocks before one of them was split: block b, whose members all have what they
 // need, is the only one that is ripe and outside. The new end of the queue.
-pub fn grow_on(
+fn grow_on_rows(
     n: usize,
     m: usize,
     b: usize,
@@ -353,4 +356,88 @@ pub fn grow_on(
         row,
         queue,
     )
+}
+
+// A set that grows: how many moves into it each state has, how many members of each block have as many as they need, and the queue of its
+// states in the order in which they entered, with its end.
+#[derive(Drop)]
+pub struct Growth<'a> {
+    pub have: &'a mut [u16],
+    pub hit: &'a mut [u16],
+    pub queue: &'a mut [u16],
+    pub tail: usize,
+}
+
+// Grows the row's set over the present blocks until a pass adds nothing, by whole blocks or by blocks that meet. The queue
+// lists the set, and the moves into its first `handled` states are counted.
+pub fn grow(
+    moves: &Moves<'_>,
+    whole: bool,
+    handled: usize,
+    block: &[u16],
+    members: &Members<'_>,
+    growth: &mut Growth<'_>,
+    row: &mut [u16],
+)
+    requires lent { (g : Game) × (side : ℕ) × MovesOf g side moves.now block.now }
+    requires linked { Chained moves.now × MembersOf moves.now.states block.now members.now × (moves.now.states ≤ length growth.old.hit.now) × CountedIn moves.now handled growth.old row.old }
+    ensures grown { GrownBy (net_of moves.now whole block.now members.now) growth.new row.new }
+    ensures stamped { (g : Game) (side : ℕ) → MovesOf g side moves.now block.now → Holds moves.now.states row.new (stamp_from (joining g side whole) (pass_at row.old) moves.now.states) }
+{
+    growth.tail = grow_rows(
+        moves.states,
+        moves.moves,
+        whole,
+        handled,
+        growth.tail,
+        moves.from,
+        moves.to,
+        moves.last,
+        moves.before,
+        moves.need,
+        block,
+        members.last,
+        members.before,
+        members.size,
+        growth.have,
+        growth.hit,
+        row,
+        growth.queue,
+    );
+}
+
+// Grows a set on that had grown by whole blocks before one of them was split: block b, whose members all have what they
+// need, is the only one that is ripe and outside.
+pub fn grow_on(
+    moves: &Moves<'_>,
+    b: usize,
+    block: &[u16],
+    members: &Members<'_>,
+    growth: &mut Growth<'_>,
+    row: &mut [u16],
+)
+    requires lent { (g : Game) × (side : ℕ) × MovesOf g side moves.now block.now }
+    requires linked { Chained moves.now × MembersOf moves.now.states block.now members.now × (b < moves.now.states) × RegrowingBy (net_of moves.now true block.now members.now) (λ s. eqb b (get_or block.now s 0)) growth.old row.old }
+    ensures grown { GrownBy (net_of moves.now true block.now members.now) growth.new row.new }
+    ensures stamped { (g : Game) (side : ℕ) → MovesOf g side moves.now block.now → Holds moves.now.states row.new (stamp_from (joining g side true) (pass_at row.old) moves.now.states) }
+{
+    growth.tail = grow_on_rows(
+        moves.states,
+        moves.moves,
+        b,
+        growth.tail,
+        moves.from,
+        moves.to,
+        moves.last,
+        moves.before,
+        moves.need,
+        block,
+        members.last,
+        members.before,
+        members.size,
+        growth.have,
+        growth.hit,
+        row,
+        growth.queue,
+    );
 }

@@ -5,7 +5,7 @@ use native.Mathlib.Omega.{arith}
 use Rattle.growth.specs.Stamp.{pass_at}
 use Rattle.growth.proofs.Passing.{pass_first}
 use Rattle.growth.proofs.Says.{sound, row_says}
-use Rattle.growth.proofs.grow_on.Goals as goal
+use Rattle.growth.proofs.grow_on_rows.Goals as goal
 
 -- a pass after the first has a number
 one-two : 1 ≤ 2

@@ -3,7 +3,7 @@ use mathlib.Core.Bool.{true}
 use Rattle.growth.specs.Stamp.{pass_at}
 use Rattle.growth.proofs.Passing.{grow_first}
 use Rattle.growth.proofs.Says.{blocks, sound, row_says}
-use Rattle.growth.proofs.grow.Goals as goal
+use Rattle.growth.proofs.grow_rows.Goals as goal
 
 pub clear-requires : goal.clear-requires
 clear-requires c = c.requires.linked.2
