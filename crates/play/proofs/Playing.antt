@@ -25,8 +25,7 @@ use Rattle.growth.specs.Stamp.{is_in}
 use Rattle.chains.specs.Lent.{Holds}
 use Rattle.rounds.specs.Border.{bordering, border_answer}
 use Rattle.rounds.specs.Renamed.{enough, row_apart}
-use Rattle.rounds.specs.declared.Border.{Border}
-use Rattle.rounds.specs.declared.Border.TheVariants.{At, Nothing}
+use Rattle.std.specs.Prelude.{Option, Some, None}
 use Rattle.runs.specs.Run.{into_known_states, lowest_first, split_game, round}
 use Rattle.runs.specs.Hunting.{upper_states, has_way, caught, catchable}
 use Rattle.runs.specs.First.{CatchableBefore}
@@ -123,15 +122,15 @@ module _ {g : Game} (ok : AcceptedGame g) {side n m objective : ℕ} {turn start
     pub open_now : {up : List ℕ} {open' : Bool} → Saying n up (upper_states (round lowest_first made g)) → open' ≡ has_way (goal_of objective) n (λ s. marked 1 (get_or starts s 0)) (is_in up) → open' ≡ catchable (round lowest_first made g)
     open_now says e = way_is y.present says e
 
-    module _ {found : Border} (answer : found ≡ border_answer n (bordering (round lowest_first made g) side lower)) (allowance : ℕ) {over : Bool} (over-is : over ≡ (nothing_found found || eqb made allowance)) where
+    module _ {found : Option BlockNo} (answer : found ≡ border_answer n (bordering (round lowest_first made g) side lower)) (allowance : ℕ) {over : Bool} (over-is : over ≡ (nothing_found found || eqb made allowance)) where
       -- no further split, or it may not: the run ends here, or before
       pub stop_last : {lower₀ up : List ℕ} {open' last_one : Bool} → made ≤ allowance → (made ≡ 0 → lower ≡ lower₀) → Saying n up (upper_states (round lowest_first made g))
           → open' ≡ has_way (goal_of objective) n (λ s. marked 1 (get_or starts s 0)) (is_in up) → last_one ≡ (over || not open') → last_one ≡ true → Stopped g allowance lower₀ lower (not open') made clear
       stop_last {lower₀} {up} {open'} within kept says e last_is is = go open' refl
         where
-          ends : (x : Border) → found ≡ x → (nothing_found x || eqb made allowance) ≡ true → catchable (round lowest_first made g) ≡ true → made ≡ allowance
-          ends (At b) z h c = eqb→eq made allowance (holds _ h)
-          ends Nothing z h c = absurd (nothing_next y.present y.lowered found answer z (word_open (round lowest_first made g) uncaught_now c))
+          ends : (x : Option BlockNo) → found ≡ x → (nothing_found x || eqb made allowance) ≡ true → catchable (round lowest_first made g) ≡ true → made ≡ allowance
+          ends (Some b) z h c = eqb→eq made allowance (holds _ h)
+          ends None z h c = absurd (nothing_next y.present y.lowered found answer z (word_open (round lowest_first made g) uncaught_now c))
 
           go : (x : Bool) → open' ≡ x → Stopped g allowance lower₀ lower (not open') made clear
           go true z = record {
@@ -163,9 +162,9 @@ module _ {g : Game} (ok : AcceptedGame g) {side n m objective : ℕ} {turn start
         pub allowed-more : made ≤ allowance → made < allowance
         allowed-more within = go found unfinished
           where
-            go : (x : Border) → (nothing_found x || eqb made allowance) ≡ false → made < allowance
-            go (At b) h = elim (ℕ_discrete made allowance) [ yes e ↦ absurd (true≢false (sym (eq-eqb made allowance e) ∙ h)) | no ne ↦ omega arith ]
-            go Nothing h = absurd (true≢false h)
+            go : (x : Option BlockNo) → (nothing_found x || eqb made allowance) ≡ false → made < allowance
+            go (Some b) h = elim (ℕ_discrete made allowance) [ yes e ↦ absurd (true≢false (sym (eq-eqb made allowance e) ∙ h)) | no ne ↦ omega arith ]
+            go None h = absurd (true≢false h)
 
         pub less_left : made ≤ allowance → allowance - (made + 1) < allowance - made
         less_left within = omega (arith, allowed-more within)
@@ -176,9 +175,9 @@ module _ {g : Game} (ok : AcceptedGame g) {side n m objective : ℕ} {turn start
         pub next_here : Next (round lowest_first made g) n block (found_block found)
         next_here = go found refl unfinished
           where
-            go : (x : Border) → found ≡ x → (nothing_found x || eqb made allowance) ≡ false → Next (round lowest_first made g) n block (found_block x)
-            go (At b) z h = next_found y.present y.lowered found b answer z
-            go Nothing z h = absurd (true≢false h)
+            go : (x : Option BlockNo) → found ≡ x → (nothing_found x || eqb made allowance) ≡ false → Next (round lowest_first made g) n block (found_block x)
+            go (Some b) z h = next_found y.present y.lowered found b answer z
+            go None z h = absurd (true≢false h)
 
         pub next_fits : {b : ℕ} → b ≡ found_block found → Fits w16 b
         next_fits e = omega (arith, next_here.state, few-states y.present)

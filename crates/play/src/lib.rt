@@ -9,7 +9,8 @@ ghost use Rattle.runs.specs.Run.{lowest_first, run, round};
 ghost use Rattle.rows.specs.RoundRows.{Begun, Played, Stopped, Ending};
 ghost use Rattle.play.specs.Found.{nothing_found, found_block};
 
-use rounds::{Border, border_block};
+use game::BlockNo;
+use rounds::border_block;
 use rows::{retrace, sets, splits};
 use runs::starts;
 
@@ -24,22 +25,22 @@ pub struct Stop {
 }
 
 // No further split is to be made: there is no border block, or the splits made equal the allowance.
-fn is_over(found: Border, made: usize, allowance: usize) -> bool
+fn is_over(found: Option<BlockNo>, made: usize, allowance: usize) -> bool
     ensures { result ≡ (nothing_found found || eqb made allowance) }
 {
     match found {
-        Border::At(_) => made == allowance,
-        Border::Nothing => true,
+        Some(_) => made == allowance,
+        None => true,
     }
 }
 
 // The number of the block that was found.
-fn block_number(found: Border) -> usize
+fn block_number(found: Option<BlockNo>) -> usize
     ensures { result ≡ found_block found }
 {
     match found {
-        Border::At(block) => block.0 as usize,
-        Border::Nothing => 0,
+        Some(block) => block.0 as usize,
+        None => 0,
     }
 }
 

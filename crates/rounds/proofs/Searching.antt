@@ -29,7 +29,7 @@ use Rattle.chains.proofs.Chains.{last-le, last_is, last_none}
 use Rattle.growth.proofs.Seen.{seen, seen_none, seen_more, seen_same, seen_all}
 use Rattle.rounds.specs.Border.{bordering, border_answer}
 use Rattle.rounds.specs.Search.{first_move, Search}
-use Rattle.rounds.specs.declared.Border.TheVariants.{At, Nothing}
+use Rattle.std.specs.Prelude.{Some, None}
 use Rattle.rounds.proofs.FirstMoves.{before_first, between_first}
 
 -- ## The members of a block, along its chain
@@ -193,11 +193,11 @@ Outside side n m turn first to block last before lower hit t =
 -- ## The answer
 
 -- no block is a border block
-pub answer-none : (k n : ℕ) (X : Set) → some k X ≡ false → k ≤ n → n ≤ k → Nothing ≡ border_answer n X
+pub answer-none : (k n : ℕ) (X : Set) → some k X ≡ false → k ≤ n → n ≤ k → None ≡ border_answer n X
 unfolding border_answer
 answer-none k n X e l h = rw (sym (some-done k n X e l h)) refl
 
 -- b is the first one
-pub answer_found : (n b : ℕ) (X : Set) → b < n → some b X ≡ false → X b ≡ true → At (block_no b) ≡ border_answer n X
+pub answer_found : (n b : ℕ) (X : Set) → b < n → some b X ≡ false → X b ≡ true → Some (block_no b) ≡ border_answer n X
 unfolding border_answer
 answer_found n b X l none e = rw (some_found n X b l e, ← least_found n b X l none e) refl

@@ -1,3 +1,4 @@
 pub mod Border
 pub mod Renamed
 pub mod Search
+pub mod Grouped

@@ -16,19 +16,16 @@ ghost use Rattle.growth.specs.Net.{hits_of};
 ghost use Rattle.rounds.specs.Border.{bordering, border_answer};
 ghost use Rattle.rounds.specs.Renamed.{enough, row_apart, after_split};
 ghost use Rattle.rounds.specs.Search.{first_move, Search};
+ghost use Rattle.chains.specs.Grouped.{MembersOf};
+ghost use Rattle.rounds.specs.Grouped.{SearchOn, parted_off, Parting};
 
+use chains::lent::{Board, Members, Moves};
 use chains::{clear, relink};
 use game::{BlockNo, Game, has_mark};
+use growth::Growth;
 
 // A row of passes.
 pub type PassRow = [u16; Game::MAX_STATES];
-
-// What the search for a border block found.
-#[derive(Clone, Copy)]
-pub enum Border {
-    At(BlockNo),
-    Nothing,
-}
 
 // 0 where the test holds, and 1 where it does not.
 fn zero_if(test: bool) -> u8
@@ -122,7 +119,7 @@ fn is_open(block: u16, b: u16, lower: u16, hit: u16) -> bool
 // The lowest-numbered border block: a block outside the lower row with a member in the side's forced-step set of it.
 // A block without a hit has none and is passed over. Members are taken along the block's chain, which counts states from
 // 1, and moves from where each state's begin: each move of a block is looked at once.
-pub fn border_block(
+fn border_in_rows(
     n: usize,
     m: usize,
     side: u8,
@@ -134,14 +131,14 @@ pub fn border_block(
     before: &[u16],
     lower: &[u16],
     hit: &[u16],
-) -> Border
+) -> Option<BlockNo>
     requires { ((g : Game) × Search g side n m turn.now first.now to.now block.now last.now before.now lower.now hit.now) × (n ≤ length lower.now) × (n ≤ length hit.now) }
     ensures { (g : Game) → Search g side n m turn.now first.now to.now block.now last.now before.now lower.now hit.now → result ≡ border_answer n (bordering g side lower.now) }
 {
     let mut b: usize = 0;
     let found = 'search: loop {
         if b >= n {
-            break 'search Border::Nothing;
+            break 'search None;
         }
         if is_open(block[b], b as u16, lower[b], hit[b]) {
             let mut at = last[b] as usize;
@@ -157,7 +154,7 @@ pub fn border_block(
                     k += 1;
                 }
                 if known == 1 {
-                    break 'search Border::At(BlockNo(b as u16));
+                    break 'search Some(BlockNo(b as u16));
                 }
                 at = before[s] as usize;
             }
@@ -237,7 +234,7 @@ fn only_if(test: bool, number: u16) -> u16
 
 // Splits block b as `split_block` does, and keeps the chains of members, the sizes and the hits of all blocks: all members
 // of the one part have what they need, and none of the other.
-pub fn part_block(
+fn part_rows(
     n: usize,
     b: usize,
     need: &[u16],
@@ -265,4 +262,61 @@ pub fn part_block(
     hit[b] = only_if(inside, one.size);
     hit[other] = only_if(!inside, two.size);
     name
+}
+
+// The lowest-numbered border block: a block outside the lower row with a member in the side's forced-step set of it.
+pub fn border_block(
+    board: &Board<'_>,
+    block: &[u16],
+    members: &Members<'_>,
+    growth: &Growth<'_>,
+    lower: &[u16],
+) -> Option<BlockNo>
+    requires { ((g : Game) × SearchOn g board.now block.now members.now growth.now lower.now) × (board.now.moves.states ≤ length lower.now) × (board.now.moves.states ≤ length growth.now.hit.now) }
+    ensures { (g : Game) → SearchOn g board.now block.now members.now growth.now lower.now → result ≡ border_answer board.now.moves.states (bordering g board.now.side lower.now) }
+{
+    border_in_rows(
+        board.moves.states,
+        board.moves.moves,
+        board.side,
+        board.turn,
+        board.first,
+        board.moves.to,
+        block,
+        members.last,
+        members.before,
+        lower,
+        growth.hit,
+    )
+}
+
+// Splits block b as `split_block` does, and keeps the chains of members, the sizes and the hits of all blocks: all members
+// of the one part have what they need, and none of the other.
+pub fn part_block(
+    moves: &Moves<'_>,
+    b: usize,
+    block: &mut [u16],
+    members: &mut Members<'_>,
+    growth: &mut Growth<'_>,
+) -> u16
+    requires { Parting moves.now b block.old members.old growth.old }
+    ensures named { result ≡ parted_off moves.now b block.old growth.old }
+    ensures parted { Holds moves.now.states block.new (after_split result block.old b (enough moves.now.need.now growth.old.have.now)) }
+    ensures gathered { MembersOf moves.now.states block.new members.new × Holds moves.now.states growth.new.hit.now (hits_of moves.now.states block.new moves.now.need.now (λ s. get_or growth.old.have.now s 0)) }
+    ensures counted { growth.new.have.now ≡ growth.old.have.now }
+    ensures queued { growth.new.queue.now ≡ growth.old.queue.now }
+    ensures end { growth.new.tail ≡ growth.old.tail }
+{
+    let have = &mut *growth.have;
+    part_rows(
+        moves.states,
+        b,
+        moves.need,
+        have,
+        block,
+        members.last,
+        members.before,
+        members.size,
+        growth.hit,
+    )
 }

@@ -31,8 +31,7 @@ use Rattle.growth.proofs.Says.{met_is, own_numbers, tos}
 use Rattle.rounds.specs.Border.{bordering, border_answer}
 use Rattle.rounds.specs.Renamed.{enough, after_split, row_apart}
 use Rattle.rounds.specs.Search.{Search}
-use Rattle.rounds.specs.declared.Border.{Border}
-use Rattle.rounds.specs.declared.Border.TheVariants.{At, Nothing}
+use Rattle.std.specs.Prelude.{Option, Some, None}
 use Rattle.rounds.proofs.RowSets.{bordering-set}
 use Rattle.runs.specs.Run.{into_known_states, lowest_first, OPEN, word, split_game}
 use Rattle.runs.specs.Hunting.{lower_states}
@@ -41,25 +40,25 @@ use Rattle.runs.proofs.Settled.{next_blocks, next-block, no_next, block_after}
 use Rattle.rows.proofs.Present.{lent}
 
 -- what a search found, taken apart
-answer_nothing : (n : ℕ) (X : Set) (found : Border) → found ≡ border_answer n X → found ≡ Nothing → some n X ≡ false
+answer_nothing : (n : ℕ) (X : Set) (found : Option BlockNo) → found ≡ border_answer n X → found ≡ None → some n X ≡ false
 unfolding border_answer
 answer_nothing n X found e none = go (some n X) refl
   where
     go : (x : Bool) → some n X ≡ x → some n X ≡ false
-    go true z = let at : found ≡ At (block_no (least n X)) = e ∙ rw z refl in let o : ◌≡◌ {A = ℕ} 0 1 = cc in absurd (omega arith)
+    go true z = let at : found ≡ Some (block_no (least n X)) = e ∙ rw z refl in let o : ◌≡◌ {A = ℕ} 0 1 = cc in absurd (omega arith)
     go false z = z
 
-answer_at : (n : ℕ) (X : Set) (found : Border) (b : BlockNo) → found ≡ border_answer n X → found ≡ At b → (b.0 < n) × (b.0 ≡ least n X) × T (X b.0)
+answer_at : (n : ℕ) (X : Set) (found : Option BlockNo) (b : BlockNo) → found ≡ border_answer n X → found ≡ Some b → (b.0 < n) × (b.0 ≡ least n X) × T (X b.0)
 unfolding border_answer
 answer_at n X found b e is = go (some n X) refl
   where
     go : (x : Bool) → some n X ≡ x → (b.0 < n) × (b.0 ≡ least n X) × T (X b.0)
     go true z =
-        let at : found ≡ At (block_no (least n X)) = e ∙ rw z refl in
+        let at : found ≡ Some (block_no (least n X)) = e ∙ rw z refl in
         let same : b.0 ≡ least n X = cc in
         let w = least-some n X (holds (some n X) z) in
         rw same (w.0, refl, w.1)
-    go false z = let none : found ≡ Nothing = e ∙ rw z refl in let o : ◌≡◌ {A = ℕ} 0 1 = cc in absurd (omega arith)
+    go false z = let none : found ≡ None = e ∙ rw z refl in let o : ◌≡◌ {A = ℕ} 0 1 = cc in absurd (omega arith)
 
 module _ {g : Game} {side n m objective : ℕ} {turn starts from to last before need first prey block last' before' size have hit lower queue : List ℕ} {tail : ℕ}
     (p : Present g side n m objective turn starts from to last before need first prey block)
@@ -111,12 +110,12 @@ module _ {g : Game} {side n m objective : ℕ} {turn starts from to last before 
       ∙ ap (λ (X : Set). is_block (block_at g) b && (not (lower_states g b) && meets g.states (block_at g) X b)) known
 
   -- what the search found: nothing, and then the round is settled
-  pub nothing_next : (found : Border) → found ≡ border_answer n (bordering g side lower) → found ≡ Nothing → word g ≡ OPEN → ⊥
+  pub nothing_next : (found : Option BlockNo) → found ≡ border_answer n (bordering g side lower) → found ≡ None → word g ≡ OPEN → ⊥
   nothing_next found e none = no_next g p.accepted
       (sym (some_cong g.states _ _ next_is) ∙ subst (λ (k : ℕ). some k (bordering g side lower) ≡ false) (sym p.states_is) (answer_nothing n (bordering g side lower) found e none))
 
   -- or the lowest-numbered border block
-  pub next_found : (found : Border) (b : BlockNo) → found ≡ border_answer n (bordering g side lower) → found ≡ At b → Next g n block b.0
+  pub next_found : (found : Option BlockNo) (b : BlockNo) → found ≡ border_answer n (bordering g side lower) → found ≡ Some b → Next g n block b.0
   unfolding bordering
   next_found found b e is =
       let w = answer_at n (bordering g side lower) found b e is in

@@ -2,5 +2,5 @@
 use mathlib.Core.Path.{refl}
 use Rattle.play.proofs.is_over.Goals as goal
 
-pub returns-in-At : goal.returns-in-At
-returns-in-At c = rw c.in-At.is refl
+pub returns-in-Some : goal.returns-in-Some
+returns-in-Some c = rw c.in-Some.is refl

@@ -11,7 +11,7 @@ use Rattle.growth.proofs.Seen.{seen}
 use Rattle.rounds.specs.Border.{bordering}
 use Rattle.rounds.specs.Search.{Search}
 use Rattle.rounds.proofs.Searching.{Passed, Outside}
-use Rattle.rounds.proofs.border_block.Given as goal
+use Rattle.rounds.proofs.border_in_rows.Given as goal
 
 abbrev pub invariant-loop-k : goal.invariant-loop-k
 invariant-loop-k l =

@@ -6,7 +6,7 @@ use native.Mathlib.Omega.{arith}
 use lib.ListN.{get_or, length-set}
 use Rattle.growth.proofs.Members.{none_below_one, none-below-two, parted, hits_parted}
 use Rattle.rounds.specs.Renamed.{enough}
-use Rattle.rounds.proofs.part_block.Goals as goal
+use Rattle.rounds.proofs.part_rows.Goals as goal
 
 -- a choice by the other test
 cond-not : (x : Bool) (v : ℕ) → cond (not x) v 0 ≡ cond x 0 v

@@ -6,8 +6,8 @@ use native.Mathlib.Omega.{arith}
 use Rattle.arena.proofs.Loops.{some-zero, some_still}
 use Rattle.game.proofs.Small.{sweep}
 use Rattle.rounds.proofs.Searching.{members_none, members_more, members_less, first-low, to_low, told_none, told_more, told_in, told_out, border-closed, border-none, border-member, answer-none, answer_found}
-use Rattle.rounds.proofs.border_block.Goals as goal
-use Rattle.rounds.proofs.border_block.Goals.{then-is_open+else-loop-at-test, else-is_open}
+use Rattle.rounds.proofs.border_in_rows.Goals as goal
+use Rattle.rounds.proofs.border_in_rows.Goals.{then-is_open+else-loop-at-test, else-is_open}
 
 pub search-init : goal.search-init
 search-init c = (search sweep, λ g q. some-zero _)
