@@ -2,3 +2,4 @@ pub mod Run
 pub mod Hunting
 pub mod Log
 pub mod First
+pub mod Grouped

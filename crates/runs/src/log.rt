@@ -1,20 +1,18 @@
 // The blocks of an earlier round, had again from a later one by undoing its splits from a log.
-ghost use Rattle.std.specs.Prelude.{◌≡◌, cond, ℕ, ◌≤◌, length, get_or, eqb};
+ghost use Rattle.std.specs.Prelude.{◌≡◌, cond, ℕ, ◌+◌, ◌≤◌, ◌<◌, length, get_or, set, eqb};
 ghost use Rattle.game.specs.Limits.{max_states};
 ghost use Rattle.game.specs.Game.{block_at};
 ghost use Rattle.game.specs.declared.Game.{Game};
 ghost use Rattle.chains.specs.Lent.{Holds};
 ghost use Rattle.runs.specs.Run.{lowest_first, round};
 ghost use Rattle.runs.specs.Log.{Log};
+ghost use Rattle.runs.specs.Grouped.{Logged};
 
 // The block before a split: its parent for one that the split named, and itself for any other.
 fn block_before(own: u16, name: u16, parent: u16) -> u16
     ensures { result ≡ cond (eqb own name) parent own }
 {
-    if own == name {
-        return parent;
-    }
-    own
+    if own == name { parent } else { own }
 }
 
 // Undoes one split, of block `parent`, by which a part of it got this name.
@@ -22,10 +20,8 @@ fn undo_split(n: usize, parent: u16, name: u16, block: &mut [u16])
     requires { (n ≤ max_states) × (n ≤ length block.old) }
     ensures { Holds n block.new (λ s. cond (eqb (get_or block.old s 0) name) parent (get_or block.old s 0)) }
 {
-    let mut s: usize = 0;
-    while s < n {
+    for s in 0..n {
         block[s] = block_before(block[s], name, parent);
-        s += 1;
     }
 }
 
@@ -45,5 +41,35 @@ pub fn earlier_blocks(
     while k > earlier {
         k -= 1;
         undo_split(n, parents[k], names[k], block);
+    }
+}
+
+// The splits of a run, and how many there are: split i was of block parents[i], and the part without that state got the name names[i].
+#[derive(Drop)]
+pub struct SplitLog<'a> {
+    pub parents: &'a mut [u16],
+    pub names: &'a mut [u16],
+    pub made: usize,
+}
+
+impl SplitLog<'_> {
+    // Writes one split more: of block `parent`, by which a part of it got this name.
+    pub fn note(&mut self, parent: u16, name: u16)
+        requires { (self.old.made < length self.old.parents.now) × (self.old.made < length self.old.names.now) }
+        ensures parents { self.new.parents.now ≡ set self.old.parents.now self.old.made parent }
+        ensures names { self.new.names.now ≡ set self.old.names.now self.old.made name }
+        ensures made { self.new.made ≡ self.old.made + 1 }
+    {
+        self.parents[self.made] = parent;
+        self.names[self.made] = name;
+        self.made += 1;
+    }
+
+    // The blocks of round `earlier` from those of round `later`: the splits between them are undone, the last one first.
+    pub fn rewind(&self, n: usize, later: usize, earlier: usize, block: &mut [u16])
+        requires { ((g : Game) × Logged g n self.now × (later ≤ self.now.made) × (earlier ≤ later) × Holds n block.old (block_at (round lowest_first later g))) × (n ≤ max_states) }
+        ensures { (g : Game) → Logged g n self.now → later ≤ self.now.made → Holds n block.old (block_at (round lowest_first later g)) → Holds n block.new (block_at (round lowest_first earlier g)) }
+    {
+        earlier_blocks(n, later, earlier, self.parents, self.names, block);
     }
 }

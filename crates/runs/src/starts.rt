@@ -13,10 +13,7 @@ use game::has_mark;
 fn decides(reach: bool, marks: u8, pass: u16) -> bool
     ensures { result ≡ (marked 1 marks && beq (not (eqb pass 0)) reach) }
 {
-    if has_mark(1, marks) {
-        return (pass != 0) == reach;
-    }
-    false
+    has_mark(1, marks) && (pass != 0) == reach
 }
 
 // The hunting side has its way: some start is in the row (reach, objective 1), or every start is (stay).
@@ -25,12 +22,10 @@ pub fn has_way(n: usize, objective: u16, starts: &[u8], row: &[u16]) -> bool
     ensures { result ≡ has_way (goal_of objective) n (λ s. marked 1 (get_or starts.now s 0)) (is_in row.now) }
 {
     let reach = objective == 1;
-    let mut s: usize = 0;
-    while s < n {
+    for s in 0..n {
         if decides(reach, starts[s], row[s]) {
             return reach;
         }
-        s += 1;
     }
     !reach
 }

@@ -1,5 +1,5 @@
 -- `undo_split` meets its contract: the places passed have the blocks before the split, the others those after it.
-use Prim.Native.Nat.{◌-◌, ◌≤◌}
+use Prim.Native.Nat.{◌≤◌}
 use mathlib.Core.Path.{◌≡◌}
 use mathlib.Core.Bool.{cond}
 use lib.ListN.{length, get_or}
@@ -10,6 +10,3 @@ use Rattle.runs.proofs.log.undo_split.Given as goal
 abbrev pub invariant-loop-s : goal.invariant-loop-s
 invariant-loop-s l =
     (l.s ≤ l.n) × (l.block ≡ fill l.s (λ t. cond (eqb (get_or l.initial.block t 0) l.name) l.parent (get_or l.initial.block t 0)) l.initial.block) × (length l.block ≡ length l.initial.block)
-
-abbrev pub decreases-loop-s : goal.decreases-loop-s
-decreases-loop-s l = l.n - l.s

@@ -1,5 +1,5 @@
 -- `has_way` meets its contract: no start passed so far decides.
-use Prim.Native.Nat.{◌-◌, ◌≤◌}
+use Prim.Native.Nat.{◌≤◌}
 use mathlib.Core.Path.{◌≡◌}
 use mathlib.Core.Bool.{false}
 use lib.ListN.{get_or}
@@ -13,6 +13,3 @@ use Rattle.runs.proofs.starts.has_way.Given as goal
 abbrev pub invariant-loop-s : goal.invariant-loop-s
 invariant-loop-s l =
     (l.s ≤ l.n) × (some l.s (deciding (eqb l.objective 1) (λ t. marked 1 (get_or l.starts t 0)) (is_in l.row)) ≡ false)
-
-abbrev pub decreases-loop-s : goal.decreases-loop-s
-decreases-loop-s l = l.n - l.s
