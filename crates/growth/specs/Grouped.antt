@@ -1,5 +1,5 @@
 -- What the rows that travel together say of a set that grows.
-use Rattle.std.specs.Prelude.{ℕ, Bool, List}
+use Rattle.std.specs.Prelude.{ℕ, ◌≤◌, Bool, List, length}
 use Rattle.arena.specs.Sets.{Set}
 use Rattle.chains.specs.declared.lent.Moves.{Moves}
 use Rattle.chains.specs.declared.lent.Members.{Members}
@@ -22,3 +22,7 @@ GrownBy w growth row = Grown w growth.have.now growth.hit.now row growth.queue.n
 -- the set had grown before a block was split: J are the states outside whose block is ripe now
 abbrev pub RegrowingBy : Net → Set → Growth → List ℕ → Type 0
 RegrowingBy w J growth row = Regrowing w J growth.have.now growth.hit.now row growth.queue.now growth.tail
+
+-- there is a place for each state
+abbrev pub Spacious : ℕ → Growth → Type 0
+Spacious n growth = (n ≤ length growth.have.now) × (n ≤ length growth.hit.now) × (n ≤ length growth.queue.now)

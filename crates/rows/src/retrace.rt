@@ -4,34 +4,27 @@ ghost use Rattle.game.specs.Game.{block_at};
 ghost use Rattle.chains.specs.Lent.{Holds};
 ghost use Rattle.runs.specs.Run.{lowest_first, round};
 ghost use Rattle.runs.specs.First.{Bisecting};
-ghost use Rattle.rows.specs.RoundRows.{Retracing};
+ghost use Rattle.rows.specs.Grouped.{RetracingOn};
 
 use crate::sets;
+use chains::lent::Board;
 use game::Game;
 use runs::log;
 
 // The round after `made` splits is lost, and none of the first `clear` rounds is. The first round that is lost, and its
 // blocks in place of those of the last round.
 pub fn first_lost(
-    n: usize,
-    m: usize,
-    objective: u16,
+    board: &Board<'_>,
     clear: usize,
     made: usize,
-    starts: &[u8],
-    from: &[u16],
-    to: &[u16],
-    last: &[u16],
-    before: &[u16],
-    need: &[u16],
-    prey: &[u16],
     parents: &[u16],
     names: &[u16],
     block: &mut [u16],
 ) -> usize
-    requires { Retracing n m objective clear made starts.now from.now to.now last.now before.now need.now prey.now parents.now names.now block.old }
-    ensures { ((t : Retracing n m objective clear made starts.now from.now to.now last.now before.now need.now prey.now parents.now names.now block.old) → Bisecting t.game result result × Holds n block.new (block_at (round lowest_first result t.game))) × (result ≤ made) × (made ≡ 0 → block.new ≡ block.old) }
+    requires { RetracingOn board.now clear made parents.now names.now block.old }
+    ensures { ((t : RetracingOn board.now clear made parents.now names.now block.old) → Bisecting t.game result result × Holds board.now.moves.states block.new (block_at (round lowest_first result t.game))) × (result ≤ made) × (made ≡ 0 → block.new ≡ block.old) }
 {
+    let n = board.moves.states;
     let mut earlier = [0u16; Game::MAX_STATES];
     let mut low = clear;
     let mut high = made;
@@ -39,9 +32,7 @@ pub fn first_lost(
         let middle = low + (high - low) / 2;
         sets::copy_row(n, block, &mut earlier);
         log::earlier_blocks(n, high, middle, parents, names, &mut earlier);
-        if sets::may_have_way(
-            n, m, objective, starts, from, to, last, before, need, prey, &earlier,
-        ) {
+        if sets::may_have_way(board, &earlier) {
             low = middle + 1;
         } else {
             sets::copy_row(n, &earlier, block);

@@ -20,12 +20,6 @@ offset_bounds-out-s c = omega (arith, c.requires.0, c.requires.1, c.requires.2, 
 pub bounds-out-s : goal.bounds-out-s
 bounds-out-s c = omega (arith, c.requires.0, c.requires.1, c.requires.2, c.loop-s.invariant.2, c.loop-s-test.true)
 
-pub overflow_add-s : goal.overflow_add-s
-overflow_add-s c = omega (arith, c.requires.0, c.requires.1, c.requires.2, c.loop-s.invariant.2, c.loop-s-test.true)
-
-pub loop-s-smaller : goal.loop-s-smaller
-loop-s-smaller c = omega (arith, c.requires.0, c.requires.1, c.requires.2, c.loop-s.invariant.2, c.loop-s-test.true)
-
 pub loop-s-preserved : goal.loop-s-preserved
 loop-s-preserved c = (search places, holds_more _ c.loop-s.invariant.1 (omega (arith, c.requires.2, c.loop-s.invariant.2)) refl, simp length-set c.loop-s.invariant.2)
 

@@ -1,5 +1,5 @@
 -- `copy_row` meets its contract: the places passed are copied.
-use Prim.Native.Nat.{◌-◌, ◌≤◌}
+use Prim.Native.Nat.{◌≤◌}
 use mathlib.Core.Path.{◌≡◌}
 use lib.ListN.{length, get_or}
 use Rattle.chains.specs.Lent.{Holds}
@@ -8,6 +8,3 @@ use Rattle.rows.proofs.sets.copy_row.Given as goal
 abbrev pub invariant-loop-s : goal.invariant-loop-s
 invariant-loop-s l =
     (l.s ≤ l.n) × Holds l.s l.out (λ t. get_or l.values t 0) × (length l.out ≡ length l.initial.out)
-
-abbrev pub decreases-loop-s : goal.decreases-loop-s
-decreases-loop-s l = l.n - l.s

@@ -13,19 +13,19 @@ sound-few : {g : Game} {side n m : ℕ} {from to need block : List ℕ} → Lent
 sound-few p = rw (← p.states_is) p.ranged.few-states
 
 pub gather-requires : goal.gather-requires
-gather-requires c = ((sound-few c.requires.lent.2, blocks c.requires.lent.2, c.requires.linked.1, c.requires.linked.2, c.requires.linked.3))
+gather-requires c = ((sound-few c.requires.lent.2, blocks c.requires.lent.2, c.requires.linked.1))
 
 pub clear-requires : goal.clear-requires
-clear-requires c = c.requires.linked.4
+clear-requires c = c.requires.linked.2.0
 
-pub list_states-tail-requires : goal.list_states-tail-requires
-list_states-tail-requires c = ((sound-few c.requires.lent.2, c.requires.linked.6, c.requires.linked.7))
+pub list_states-growth-requires : goal.list_states-growth-requires
+list_states-growth-requires c = ((sound-few c.requires.lent.2, c.requires.linked.3, c.requires.linked.2.2))
 
 pub grow-requires : goal.grow-requires
 grow-requires c =
     record {
       lent = c.requires.lent;
-      linked = (c.requires.linked.0, c.gather.ensures, c.requires.linked.5, counted_none _ _ _ _ c.clear.ensures c.list_states-tail.ensures c.requires.linked.6);
+      linked = (c.requires.linked.0, c.gather.ensures, c.requires.linked.2.1, counted_none _ _ _ _ c.clear.ensures c.list_states-growth.ensures c.requires.linked.3);
     }
 
 pub returns : goal.returns

@@ -12,20 +12,20 @@ part_block-name-requires c =
     let p = u.present in
     (few-states p, next.state, p.need_is.long, u.lowered.grown.counted.counts.long, p.block_is.long, names p, next.name, u.lowered.gathered, hits_have p u.lowered, both_parts p u.lowered next))
 
-pub offset_bounds-have-b : goal.offset_bounds-have-b
-offset_bounds-have-b c = omega (arith, few-states c.requires.0.present, c.requires.1.state, c.requires.0.lowered.grown.counted.counts.long, c.requires.0.present.need_is.long)
+pub offset_bounds-growth-b : goal.offset_bounds-growth-b
+offset_bounds-growth-b c = omega (arith, few-states c.requires.0.present, c.requires.1.state, c.requires.0.lowered.grown.counted.counts.long, c.requires.0.present.need_is.long)
 
-pub bounds-have-b : goal.bounds-have-b
-bounds-have-b c = omega (arith, few-states c.requires.0.present, c.requires.1.state, c.requires.0.lowered.grown.counted.counts.long, c.requires.0.present.need_is.long)
+pub bounds-growth-b : goal.bounds-growth-b
+bounds-growth-b c = omega (arith, few-states c.requires.0.present, c.requires.1.state, c.requires.0.lowered.grown.counted.counts.long, c.requires.0.present.need_is.long)
 
-pub offset_bounds-need-b : goal.offset_bounds-need-b
-offset_bounds-need-b c = omega (arith, few-states c.requires.0.present, c.requires.1.state, c.requires.0.lowered.grown.counted.counts.long, c.requires.0.present.need_is.long)
+pub offset_bounds-moves-b : goal.offset_bounds-moves-b
+offset_bounds-moves-b c = omega (arith, few-states c.requires.0.present, c.requires.1.state, c.requires.0.lowered.grown.counted.counts.long, c.requires.0.present.need_is.long)
 
-pub bounds-need-b : goal.bounds-need-b
-bounds-need-b c = omega (arith, few-states c.requires.0.present, c.requires.1.state, c.requires.0.lowered.grown.counted.counts.long, c.requires.0.present.need_is.long)
+pub bounds-moves-b : goal.bounds-moves-b
+bounds-moves-b c = omega (arith, few-states c.requires.0.present, c.requires.1.state, c.requires.0.lowered.grown.counted.counts.long, c.requires.0.present.need_is.long)
 
-pub grow_on-grown-requires : goal.grow_on-grown-requires
-grow_on-grown-requires c =
+pub grow_on-requires : goal.grow_on-requires
+grow_on-requires c =
     (let u = c.requires.0 in
     let next = c.requires.1 in
     let p = u.present in
@@ -33,10 +33,10 @@ grow_on-grown-requires c =
     let part = c.part_block-name.ensures in
     let chosen = c.inner_part-inner.ensures in
     let here = next-present p q next part.named part.parted part.gathered.0 part.gathered.1 in
-    record { lent = (split_game lowest_first u.game, u.side, lent here); linked = (p.chains, part.gathered.0, inner_small p q next part.named part.parted part.gathered.0 part.gathered.1 chosen, inner-due p q next part.named part.parted part.gathered.0 part.gathered.1 chosen) })
+    record { lent = (split_game lowest_first u.game, u.side, lent here); linked = (p.chains, part.gathered.0, inner_small p q next part.named part.parted part.gathered.0 part.gathered.1 chosen, rw (part.counted, part.queued, part.end) (inner-due p q next part.named part.parted part.gathered.0 part.gathered.1 chosen)) })
 
 pub returns : goal.returns
 returns c =
     let part = c.part_block-name.ensures in
-    let grown = c.grow_on-grown.ensures in
+    let grown = c.grow_on.ensures in
     record { named = part.named; split = λ u next. (next-blocks u.present u.lowered next part.named part.parted part.gathered.0 part.gathered.1, next-lowered u.present u.lowered next part.named part.parted part.gathered.0 part.gathered.1 grown.grown (grown.stamped (split_game lowest_first u.game) u.side (lent (next-present u.present u.lowered next part.named part.parted part.gathered.0 part.gathered.1)))) }

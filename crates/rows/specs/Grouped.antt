@@ -1,0 +1,64 @@
+-- What the rows that travel together say of a run and its rounds.
+use Rattle.std.specs.Prelude.{ℕ, Bool, List}
+use Rattle.game.specs.declared.Game.{Game}
+use Rattle.chains.specs.declared.lent.Board.{Board}
+use Rattle.chains.specs.declared.lent.Moves.{Moves}
+use Rattle.chains.specs.declared.lent.Members.{Members}
+use Rattle.growth.specs.declared.Growth.{Growth}
+use Rattle.rows.specs.RoundRows.{Present, Lowered, Underway, Retracing, Begun, Played, Ending, Finishing, Final}
+
+-- the present blocks of a game, and what the board says of it but for the side that hunts, the turns and where each state's moves begin
+abbrev pub PresentBy : Game → ℕ → List ℕ → List ℕ → Board → List ℕ → Type 0
+PresentBy g side turn first board block =
+    let moves = board.moves in
+    Present g side moves.states moves.moves board.objective turn board.starts.now moves.from.now moves.to.now moves.last.now moves.before.now moves.need.now first board.prey.now block
+
+-- the present blocks of a game, and all that the board says of it
+abbrev pub PresentOn : Game → Board → List ℕ → Type 0
+PresentOn g board = PresentBy g board.side board.turn.now board.first.now board
+
+-- the members of the present blocks, and the set that the hunting side surely brings about
+abbrev pub LoweredOn : Game → Moves → List ℕ → Members → Growth → List ℕ → Type 0
+LoweredOn g moves block members growth lower =
+    Lowered g moves.states moves.moves moves.from.now moves.to.now moves.need.now block members.last.now members.before.now members.size.now growth.have.now growth.hit.now lower growth.queue.now growth.tail
+
+-- a round that is under way
+abbrev pub UnderwayOn : Moves → List ℕ → Members → Growth → List ℕ → Type 0
+UnderwayOn moves block members growth lower =
+    Underway moves.states moves.moves moves.from.now moves.to.now moves.last.now moves.before.now moves.need.now block members.last.now members.before.now members.size.now growth.have.now growth.hit.now lower growth.queue.now growth.tail
+
+-- a run whose round after `made` splits is lost for the hunting side, and none of the first `clear` rounds is
+abbrev pub RetracingOn : Board → ℕ → ℕ → List ℕ → List ℕ → List ℕ → Type 0
+RetracingOn board clear made parents names block =
+    let moves = board.moves in
+    Retracing moves.states moves.moves board.objective clear made board.starts.now moves.from.now moves.to.now moves.last.now moves.before.now moves.need.now board.prey.now parents names block
+
+-- a run begins: its first round is worked out
+abbrev pub BegunOn : Board → List ℕ → Members → Growth → List ℕ → Type 0
+BegunOn board block members growth lower =
+    let moves = board.moves in
+    Begun board.side moves.states moves.moves board.objective board.turn.now board.starts.now moves.from.now moves.to.now moves.last.now moves.before.now moves.need.now board.first.now board.prey.now block members.last.now members.before.now members.size.now growth.have.now growth.hit.now lower growth.queue.now growth.tail
+
+-- the round after `made` splits of a run of g is worked out
+abbrev pub PlayedOn : Game → Board → List ℕ → Members → Growth → List ℕ → List ℕ → List ℕ → ℕ → ℕ → Type 0
+PlayedOn g board block members growth lower parents names made clear =
+    let moves = board.moves in
+    Played g board.side moves.states moves.moves board.objective board.turn.now board.starts.now moves.from.now moves.to.now moves.last.now moves.before.now moves.need.now board.first.now board.prey.now block members.last.now members.before.now members.size.now growth.have.now growth.hit.now lower growth.queue.now parents names made clear growth.tail
+
+-- a run that has stopped
+abbrev pub EndingOn : Board → ℕ → ℕ → ℕ → Bool → List ℕ → List ℕ → List ℕ → Type 0
+EndingOn board allowance clear made lost parents names block =
+    let moves = board.moves in
+    Ending moves.states moves.moves board.objective allowance clear made lost board.starts.now moves.from.now moves.to.now moves.last.now moves.before.now moves.need.now board.prey.now parents names block
+
+-- the last game of a run; where no split was made its lower row is there already
+abbrev pub FinishingOn : Board → ℕ → List ℕ → Members → Growth → List ℕ → Type 0
+FinishingOn board made block members growth lower =
+    let moves = board.moves in
+    Finishing moves.states moves.moves made growth.tail moves.from.now moves.to.now moves.last.now moves.before.now moves.need.now board.prey.now block members.last.now members.before.now members.size.now growth.have.now growth.hit.now lower growth.queue.now
+
+-- how a run of g came out
+abbrev pub FinalOn : Game → Board → ℕ → List ℕ → ℕ → List ℕ → List ℕ → Type 0
+FinalOn g board allowance block splits lower upper =
+    let moves = board.moves in
+    Final g board.side moves.states moves.moves board.objective allowance board.turn.now board.starts.now moves.from.now moves.to.now moves.last.now moves.before.now moves.need.now board.first.now board.prey.now block splits lower upper
