@@ -37,9 +37,7 @@ pub fn earlier_blocks(
     requires { ((g : Game) × (made : ℕ) × Log g n made parents.now names.now × (later ≤ made) × (earlier ≤ later) × Holds n block.old (block_at (round lowest_first later g))) × (n ≤ max_states) }
     ensures { (g : Game) (made : ℕ) → Log g n made parents.now names.now → later ≤ made → Holds n block.old (block_at (round lowest_first later g)) → Holds n block.new (block_at (round lowest_first earlier g)) }
 {
-    let mut k = later;
-    while k > earlier {
-        k -= 1;
+    for k in (earlier..later).rev() {
         undo_split(n, parents[k], names[k], block);
     }
 }

@@ -1,7 +1,5 @@
 -- `earlier_blocks` meets its contract: whichever game the log is of, the row has the blocks of round k.
-use Prim.Native.Nat.{ℕ, ◌-◌, ◌≤◌}
-use mathlib.Core.Path.{◌≡◌}
-use lib.ListN.{length}
+use Prim.Native.Nat.{ℕ, ◌≤◌}
 use Rattle.game.specs.Game.{block_at}
 use Rattle.game.specs.declared.Game.{Game}
 use Rattle.chains.specs.Lent.{Holds}
@@ -14,7 +12,3 @@ invariant-loop-k l =
     (l.earlier ≤ l.k)
     × (l.k ≤ l.later)
     × ((g : Game) (made : ℕ) → Log g l.n made l.parents l.names → l.later ≤ made → Holds l.n l.initial.block (block_at (round lowest_first l.later g)) → Holds l.n l.block (block_at (round lowest_first l.k g)))
-    × (length l.block ≡ length l.initial.block)
-
-abbrev pub decreases-loop-k : goal.decreases-loop-k
-decreases-loop-k l = l.k - l.earlier
