@@ -11,16 +11,18 @@ use Rattle.arena.specs.Sets.{Set}
 use Rattle.arena.proofs.Tests.{holds, and_l, and_r, or_elim}
 use Rattle.arena.proofs.Loops.{some_found, some_one, every_one}
 use Rattle.game.specs.Game.{from_at, to_at, initials, targets, has_move}
+use Rattle.std.specs.Prelude.{◌≤◌, Result, Ok, Err}
+use Rattle.game.specs.declared.Game.{Game}
+use Rattle.file.specs.declared.refusal.Refusal.{Refusal}
+use Rattle.file.specs.Number.{refused}
 use Rattle.game.specs.Accepted.{AcceptedGame, Precise, Ascending}
 use Rattle.file.specs.Layout.{states, moves, block, from, to}
 use Rattle.file.specs.Refusals.{pair_below, ascends, initial, target, moved, mixed, refusal}
 use Rattle.file.specs.Sound.{Sound}
-use Rattle.file.proofs.Laws.{given_cases}
+use Rattle.file.proofs.Numbers.{answered_cases}
 use Rattle.file.proofs.Sound.{accepted_sound, Whole, accepted-whole}
 use Rattle.file.proofs.Mixed.{uniform}
-use Rattle.decoding.specs.declared.Answer.TheVariants.{Accepted as Taken}
-use Rattle.decoding.specs.declared.Decoded.{Decoded}
-use Rattle.decoding.specs.Decode.{game_of, refused_game, decoded}
+use Rattle.decoding.specs.Decode.{game_of, decoded}
 use Rattle.decoding.proofs.GameRows.{turn_is, marks_is, block_is, from_is, to_is, initial_is, target_is}
 
 below_cases : (a b c d : ℕ) → pair_below a b c d ≡ true → (a < c) ⊎ ((a ≡ c) × (b < d))
@@ -82,11 +84,11 @@ pub accepted-game : (f : List ℕ) → refusal f ≡ 0 → AcceptedGame (game_of
 accepted-game f e = game-accepted f (accepted_sound f 0 (sym e) refl) (accepted-whole f e)
 
 -- demand 1: what a caller of `decode` learns of an accepted file
-pub decoded-accepted : (f : List ℕ) (d : Decoded) → d ≡ decoded f → d.answer ≡ Taken → (refusal f ≡ 0) × (d.game ≡ game_of f) × AcceptedGame d.game
+pub decoded-accepted : (f : List ℕ) (g : Game) → Ok g ≡ decoded f → (refusal f ≡ 0) × (g ≡ game_of f) × AcceptedGame g
 unfolding decoded
-decoded-accepted f d p q =
+decoded-accepted f g p =
     ⊎_elim
-    (λ (w : (refusal f ≡ 0) × (d ≡ record { answer = Taken; game = game_of f })).
-    let g : d.game ≡ game_of f = ap (λ (x : Decoded). x.game) w.1 in (w.0, g, rw g (accepted-game f w.0)))
-    (λ (w : (refusal f ≡ 0 → ⊥) × (d ≡ refused_game (refusal f))). let z : ◌≡◌ {A = ℕ} 0 1 = cc (ap (λ (x : Decoded). x.answer) w.1) in absurd (omega arith))
-    (given_cases refused_game _ (refusal f) d p)
+    (λ (w : (refusal f ≡ 0) × (◌≡◌ {A = Result Game Refusal} (Ok g) (Ok (game_of f)))).
+    let same : g ≡ game_of f = cc w.1 in (w.0, same, rw same (accepted-game f w.0)))
+    (λ (w : (1 ≤ refusal f) × (◌≡◌ {A = Result Game Refusal} (Ok g) (Err (refused (refusal f))))). let z : ◌≡◌ {A = ℕ} 0 1 = cc w.1 in absurd (omega arith))
+    (answered_cases (game_of f) (refusal f) (Ok g) p)

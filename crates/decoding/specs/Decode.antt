@@ -1,16 +1,15 @@
 -- What a file decodes to.
-use Rattle.std.specs.Prelude.{ℕ, List}
+use Rattle.std.specs.Prelude.{ℕ, List, Result}
 use Rattle.game.specs.Limits.{max_states, max_moves}
 use Rattle.game.specs.Rows.{fill, blank, zeros}
-use Rattle.game.specs.Game.{state_no, block_no, empty_game}
+use Rattle.game.specs.Game.{state_no, block_no}
 use Rattle.game.specs.declared.StateNo.{StateNo}
 use Rattle.game.specs.declared.BlockNo.{BlockNo}
 use Rattle.game.specs.declared.Game.{Game}
-use Rattle.file.specs.Fault.{refused_or}
+use Rattle.file.specs.declared.refusal.Refusal.{Refusal}
+use Rattle.file.specs.Fault.{answered}
 use Rattle.file.specs.Layout.{states, moves, objective, turn, marks, block, from, to}
 use Rattle.file.specs.Refusals.{refusal}
-use Rattle.decoding.specs.declared.Answer.TheVariants.{Accepted, Refused}
-use Rattle.decoding.specs.declared.Decoded.{Decoded}
 
 -- 01, 'Game file': the rows that the records of f say, one place per state or per move, and 0 after them
 unfoldable pub turn_row : List ℕ → List ℕ
@@ -42,10 +41,6 @@ game_of f =
       to = to_row f;
     }
 
--- 01, 'Refusals in their order': a refusal returns its number alone; the game beside it says nothing
-abbrev pub refused_game : ℕ → Decoded
-refused_game e = record { answer = Refused e; game = empty_game }
-
 -- demand 1: what decoding answers to the bytes f
-unfoldable pub decoded : List ℕ → Decoded
-decoded f = refused_or refused_game (refusal f) (record { answer = Accepted; game = game_of f })
+unfoldable pub decoded : List ℕ → Result Game Refusal
+decoded f = answered (refusal f) (game_of f)

@@ -6,24 +6,10 @@ ghost use Rattle.file.specs.Layout.{states, moves};
 ghost use Rattle.file.specs.Sound.{Sound};
 ghost use Rattle.decoding.specs.Decode.{turn_row, marks_row, block_row, from_row, to_row, game_of, decoded};
 
-use file::{first_refusal, move_at, number_at};
+use file::{Refusal, first_refusal, move_at, number_at};
 use game::{BlockNo, Game, StateNo};
 
 pub mod plain;
-
-// What is said of a file: it is accepted, or it gets the refusal of this number, 2 to 11.
-#[derive(Clone, Copy)]
-pub enum Answer {
-    Accepted,
-    Refused(u8),
-}
-
-// The answer with the game of the file beside it. Beside a refusal stands the empty game.
-#[derive(Clone, Copy)]
-pub struct Decoded {
-    pub answer: Answer,
-    pub game: Game,
-}
 
 // The rows that the state records say.
 #[derive(Clone, Copy)]
@@ -105,18 +91,10 @@ fn read_game(file: &[u8]) -> Game
 }
 
 // The game of an accepted file, or the first refusal. Any byte string will do.
-pub fn decode(file: &[u8]) -> Decoded
+#[tactic(auto, using(file::proofs::Numbers::refused_given, file::proofs::Numbers::answer_given), unfolding(crate::specs::Decode::decoded))]
+pub fn decode(file: &[u8]) -> Result<Game, Refusal>
     ensures { result ≡ decoded file.now }
 {
-    let e = first_refusal(file);
-    if e != 0 {
-        return Decoded {
-            answer: Answer::Refused(e),
-            game: Game::empty(),
-        };
-    }
-    Decoded {
-        answer: Answer::Accepted,
-        game: read_game(file),
-    }
+    first_refusal(file)?;
+    Ok(read_game(file))
 }

@@ -6,62 +6,65 @@ use native.Mathlib.Omega.{arith}
 use lib.ListN.{length, take, drop}
 use lib.Seq.{take_at, drop_at}
 use borrow.Author.Tests.{le-leb, lt-leb}
+use Rattle.std.specs.Prelude.{Result, Ok, Err}
 use Rattle.game.specs.Rows.{fill}
 use Rattle.file.specs.Layout.{Bytes}
 use Rattle.file.specs.Refusals.{refusal}
+use Rattle.file.proofs.Numbers.{number_range, refused_given, answer_given}
 use Rattle.file.proofs.Laws.{then_fault, then_none, unless-last, unless-end, refused-given, answer-given}
-use Rattle.exchange.specs.declared.Exchanged.{Exchanged}
-use Rattle.exchange.specs.declared.Exchanged.TheVariants.{Written, Refused}
+use Rattle.file.specs.declared.refusal.Refusal.{Refusal}
+use Rattle.file.specs.declared.refusal.Refusal.TheVariants.{ShortRow}
+use Rattle.file.specs.Number.{number}
 use Rattle.exchange.specs.Exchange.{exchanged_file, exchange_fault, Outcome, exchanged}
 use Rattle.exchange.specs.Bytes.{exchanged_bytes}
 use Rattle.exchange.proofs.ExchangedFiles.{same_length}
 use Rattle.exchange.proofs.Written.{bytes-written}
 
--- ## The ends of the code; e is what `first_refusal` gave
+-- ## The ends of the code
 
-abbrev outcome : Exchanged → List ℕ → Outcome
+abbrev outcome : Result ℕ Refusal → List ℕ → Outcome
 outcome answer output = record { answer = answer; output = output }
 
-module _ (f out : List ℕ) (e : ℕ) (p : e ≡ refusal f) where
-  refused : (v : ℕ) → v ≡ exchange_fault f (length out) → (v ≡ 0 → ⊥) → outcome (Refused v) out ≡ exchanged f out
+module _ (f out : List ℕ) where
+  refused : (r : Refusal) → number r ≡ exchange_fault f (length out) → outcome (Err r) out ≡ exchanged f out
   unfolding exchanged
-  refused v q ne = ap₂ outcome (refused-given Refused _ v _ (Refused v) q ne refl) (refused-given (λ n. out) _ v _ out q ne refl)
+  refused r q = ap₂ outcome (refused_given _ r _ q) (refused-given (λ n. out) _ (number r) _ out q (λ z. omega (arith, number_range r)) refl)
 
   -- the file is refused
-  pub file-refused : (e ≡ 0 → ⊥) → outcome (Refused e) out ≡ exchanged f out
+  pub file-refused : (r : Refusal) → number r ≡ refusal f → outcome (Err r) out ≡ exchanged f out
   unfolding exchange_fault
-  file-refused ne = refused e (then_fault _ _ e p ne) ne
+  file-refused r p = refused r (then_fault _ _ (number r) p (λ z. omega (arith, number_range r)))
 
-  -- the output is too short
-  pub room-refused : e ≡ 0 → length out < length f → outcome (Refused 1) out ≡ exchanged f out
-  unfolding exchange_fault
-  room-refused none short = refused 1 (then_none _ _ e 1 p none (unless-last _ 1 (lt-leb _ _ short))) (λ z. omega arith)
+  module _ (taken : 0 ≡ refusal f) where
+    -- the output is too short
+    pub room-refused : length out < length f → outcome (Err ShortRow) out ≡ exchanged f out
+    unfolding exchange_fault
+    room-refused short = refused ShortRow (then_none _ _ 0 1 taken refl (unless-last _ 1 (lt-leb _ _ short)))
 
-  fault_none : e ≡ 0 → length f ≤ length out → 0 ≡ exchange_fault f (length out)
-  unfolding exchange_fault
-  fault_none none room = then_none _ _ e 0 p none (unless-end _ 1 (le-leb _ _ room))
+    fault_none : length f ≤ length out → 0 ≡ exchange_fault f (length out)
+    unfolding exchange_fault
+    fault_none room = then_none _ _ 0 0 taken refl (unless-end _ 1 (le-leb _ _ room))
 
-  -- the exchanged file is written
-  pub all-written : Bytes f → e ≡ 0 → length f ≤ length out → (row : List ℕ) → row ≡ fill (length f) (exchanged_bytes f) out → outcome (Written (length f)) row ≡ exchanged f out
-  unfolding exchanged
-  all-written small none room row w =
-      let taken : refusal f ≡ 0 = sym p ∙ none in
-      ap₂ outcome (answer-given Refused _ 0 _ (Written (length f)) (fault_none none room) refl (ap Written (sym (same_length f taken))))
-      (answer-given (λ n. out) _ 0 _ row (fault_none none room) refl (w ∙ bytes-written f out small taken))
+    -- the exchanged file is written
+    pub all-written : Bytes f → length f ≤ length out → (row : List ℕ) → row ≡ fill (length f) (exchanged_bytes f) out → outcome (Ok (length f)) row ≡ exchanged f out
+    unfolding exchanged
+    all-written small room row w =
+        ap₂ outcome (ap Ok (sym (same_length f (sym taken))) ∙ answer_given _ _ (fault_none room))
+        (answer-given (λ n. out) _ 0 _ row (fault_none room) refl (w ∙ bytes-written f out small (sym taken)))
 
 -- ## What callers may count on
 
 -- an accepted file and an output that is long enough: the length is answered, the first bytes are the exchanged file, and
 -- the output after that keeps its content
 pub written : (f out : List ℕ) → refusal f ≡ 0 → length f ≤ length out
-    → ((exchanged f out).answer ≡ Written (length f))
+    → ((exchanged f out).answer ≡ Ok (length f))
     × (take (length f) (exchanged f out).output ≡ exchanged_file f)
     × (drop (length f) (exchanged f out).output ≡ drop (length f) out)
 unfolding exchanged
 written f out taken room =
     let same = same_length f taken in
-    rw (← fault_none f out 0 (sym taken) refl room) (
-      ap Written same,
+    rw (← fault_none f out (sym taken) room) (
+      ap Ok same,
       take_at (exchanged_file f) _ (length f) same,
       drop_at (exchanged_file f) _ (length f) same ∙ ap (λ (n : ℕ). drop n out) same,
     )

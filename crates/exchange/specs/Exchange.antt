@@ -1,14 +1,13 @@
 -- Demand 3: exchange the sides. The exchanged game, and the file of it.
-use Rattle.std.specs.Prelude.{ℕ, ◌+◌, ◌-◌, cond, List, ◌++◌, length, drop, eqb, leb, ltb}
+use Rattle.std.specs.Prelude.{ℕ, ◌+◌, ◌-◌, cond, List, ◌++◌, length, drop, eqb, leb, ltb, Result}
 use Rattle.game.specs.Rows.{fill}
 use Rattle.game.specs.Game.{turn_at, marks_at}
 use Rattle.game.specs.declared.Game.{Game}
-use Rattle.file.specs.Fault.{unless, ◌then◌, refused_or, kept_or}
+use Rattle.file.specs.declared.refusal.Refusal.{Refusal}
+use Rattle.file.specs.Fault.{unless, ◌then◌, answered, kept_or}
 use Rattle.encoding.specs.Encode.{file_of}
 use Rattle.file.specs.Refusals.{refusal}
 use Rattle.decoding.specs.Decode.{game_of}
-use Rattle.exchange.specs.declared.Exchanged.{Exchanged}
-use Rattle.exchange.specs.declared.Exchanged.TheVariants.{Written, Refused}
 
 -- demand 3: flip whose turn each state is
 abbrev pub other_turn : ℕ → ℕ
@@ -50,7 +49,7 @@ written_over file out = file ++ drop (length file) out
 
 -- what a call of the exchange hands back: its answer, and the output
 pub record Outcome : Type 0 where
-  pub answer : Exchanged
+  pub answer : Result ℕ Refusal
   pub output : List ℕ
 
 -- demand 3; 01, 'What is handed back': the exchange writes the file of the exchanged game and returns its length
@@ -58,6 +57,6 @@ unfoldable pub exchanged : List ℕ → List ℕ → Outcome
 exchanged f out =
     let e = exchange_fault f (length out) in
     record {
-      answer = refused_or Refused e (Written (length (exchanged_file f)));
+      answer = answered e (length (exchanged_file f));
       output = kept_or out e (written_over (exchanged_file f) out);
     }

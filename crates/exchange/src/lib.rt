@@ -6,14 +6,7 @@ ghost use Rattle.game.specs.Limits.{max_states};
 ghost use Rattle.exchange.specs.Exchange.{other_turn, other_objective, other_marks, exchanged};
 ghost use Rattle.exchange.specs.Bytes.{exchanged_byte};
 
-use file::{first_refusal, number_at};
-
-// What the exchange answers: the length that it wrote, or the number of a refusal, 1 to 11.
-#[derive(Clone, Copy)]
-pub enum Exchanged {
-    Written(usize),
-    Refused(u8),
-}
+use file::{Refusal, first_refusal, number_at};
 
 fn other_turn(turn: u8) -> u8
     ensures { result ≡ other_turn turn }
@@ -56,22 +49,18 @@ fn exchanged_byte(n: usize, i: usize, b: u8) -> u8
     b
 }
 
-// Writes the file of the exchanged game into the first bytes of the output. A refusal leaves the output as it was.
-pub fn exchange(file: &[u8], out: &mut [u8]) -> Exchanged
+// Writes the file of the exchanged game into the first bytes of the output, and answers its length. A refusal leaves
+// the output as it was.
+pub fn exchange(file: &[u8], out: &mut [u8]) -> Result<usize, Refusal>
     ensures { record { answer = result; output = out.new } ≡ exchanged file.now out.old }
 {
-    let e = first_refusal(file);
-    if e != 0 {
-        return Exchanged::Refused(e);
-    }
+    first_refusal(file)?;
     if out.len() < file.len() {
-        return Exchanged::Refused(1);
+        return Err(Refusal::ShortRow);
     }
     let n = number_at(file, 4) as usize;
-    let mut i: usize = 0;
-    while i < file.len() {
+    for i in 0..file.len() {
         out[i] = exchanged_byte(n, i, file[i]);
-        i += 1;
     }
-    Exchanged::Written(file.len())
+    Ok(file.len())
 }

@@ -1,3 +1,4 @@
+pub mod Numbers
 pub mod Laws
 pub mod Sound
 pub mod Mixed

@@ -120,6 +120,10 @@ links f e =
 pub accepted_sound : (f : List ℕ) (e : ℕ) → e ≡ refusal f → e ≡ 0 → Sound f
 accepted_sound f e p q = let l = links f (sym p ∙ q) in sound f l.0 l.1 l.2
 
+-- the same of a file that a call found without fault
+pub taken_sound : (f : List ℕ) → 0 ≡ refusal f → Sound f
+taken_sound f p = accepted_sound f 0 p refl
+
 -- what refusals 7 to 11 leave
 pub record Whole (f : List ℕ) : Type 0 where
   pub ends : length f ≤ move_at f (moves f)

@@ -6,12 +6,17 @@ ghost use Rattle.arena.specs.Sets.{some, every, bit};
 ghost use Rattle.game.specs.Limits.{max_states, max_moves};
 ghost use Rattle.game.specs.Rows.{Cells};
 ghost use Rattle.game.specs.Game.{within, marked};
+ghost use Rattle.file.specs.Number.{refused, fault_of};
 ghost use Rattle.file.specs.Fault.{lowest};
 ghost use Rattle.file.specs.Layout.{byte, number_at, states, moves, state_at, move_at};
 ghost use Rattle.file.specs.Refusals.{frame, head_fields, head_fault, state_fields, state_fault, pair_below, ascends, move_fields, move_fault, initial, moved, mixed, block_fault, whole_fault, refusal};
 ghost use Rattle.file.specs.Sound.{Sound};
 
 use game::{Game, has_mark};
+
+pub mod refusal;
+
+pub use refusal::Refusal;
 
 fn pair(low: u8, high: u8) -> u16
     ensures { result ≡ low + 256 * high }
@@ -320,8 +325,8 @@ fn whole_fault(file: &[u8], n: usize, m: usize) -> u8
     block_fault(file, n)
 }
 
-// The number of the first refusal, or 0 for an accepted file. Any byte string will do.
-pub fn first_refusal(file: &[u8]) -> u8
+// The number of the first refusal, or 0 for an accepted file.
+fn first_fault(file: &[u8]) -> u8
     ensures { result ≡ refusal file.now }
 {
     let head = head_fault(file);
@@ -339,4 +344,32 @@ pub fn first_refusal(file: &[u8]) -> u8
         return move_;
     }
     whole_fault(file, n, m)
+}
+
+// The refusal of a number from 1 to 11.
+fn refused(e: u8) -> Refusal
+    requires { (1 ≤ e) × (e ≤ 11) }
+    ensures { result ≡ refused e }
+{
+    match e {
+        1 => Refusal::ShortRow,
+        2 => Refusal::CutShort,
+        3 => Refusal::OtherRecord,
+        4 => Refusal::BadHead,
+        5 => Refusal::BadState,
+        6 => Refusal::BadMove,
+        7 => Refusal::BytesAtEnd,
+        8 => Refusal::NoStart,
+        9 => Refusal::NoMove,
+        10 => Refusal::MixedStarts,
+        _ => Refusal::MixedTarget,
+    }
+}
+
+// The first refusal of a file, or none of an accepted one. Any byte string will do.
+pub fn first_refusal(file: &[u8]) -> Result<(), Refusal>
+    ensures { fault_of result ≡ refusal file.now }
+{
+    let e = first_fault(file);
+    if e == 0 { Ok(()) } else { Err(refused(e)) }
 }
