@@ -5,6 +5,7 @@ use Rattle.chains.specs.declared.lent.Board.{Board}
 use Rattle.chains.specs.declared.lent.Moves.{Moves}
 use Rattle.chains.specs.declared.lent.Members.{Members}
 use Rattle.growth.specs.declared.Growth.{Growth}
+use Rattle.runs.specs.declared.log.SplitLog.{SplitLog}
 use Rattle.rows.specs.RoundRows.{Present, Lowered, Underway, Retracing, Begun, Played, Ending, Finishing, Final}
 
 -- the present blocks of a game, and what the board says of it but for the side that hunts, the turns and where each state's moves begin
@@ -27,11 +28,11 @@ abbrev pub UnderwayOn : Moves → List ℕ → Members → Growth → List ℕ �
 UnderwayOn moves block members growth lower =
     Underway moves.states moves.moves moves.from.now moves.to.now moves.last.now moves.before.now moves.need.now block members.last.now members.before.now members.size.now growth.have.now growth.hit.now lower growth.queue.now growth.tail
 
--- a run whose round after `made` splits is lost for the hunting side, and none of the first `clear` rounds is
-abbrev pub RetracingOn : Board → ℕ → ℕ → List ℕ → List ℕ → List ℕ → Type 0
-RetracingOn board clear made parents names block =
+-- a run whose round after the splits of the log is lost for the hunting side, and none of the first `clear` rounds is
+abbrev pub RetracingOn : Board → ℕ → SplitLog → List ℕ → Type 0
+RetracingOn board clear log block =
     let moves = board.moves in
-    Retracing moves.states moves.moves board.objective clear made board.starts.now moves.from.now moves.to.now moves.last.now moves.before.now moves.need.now board.prey.now parents names block
+    Retracing moves.states moves.moves board.objective clear log.made board.starts.now moves.from.now moves.to.now moves.last.now moves.before.now moves.need.now board.prey.now log.parents.now log.names.now block
 
 -- a run begins: its first round is worked out
 abbrev pub BegunOn : Board → List ℕ → Members → Growth → List ℕ → Type 0
@@ -39,17 +40,17 @@ BegunOn board block members growth lower =
     let moves = board.moves in
     Begun board.side moves.states moves.moves board.objective board.turn.now board.starts.now moves.from.now moves.to.now moves.last.now moves.before.now moves.need.now board.first.now board.prey.now block members.last.now members.before.now members.size.now growth.have.now growth.hit.now lower growth.queue.now growth.tail
 
--- the round after `made` splits of a run of g is worked out
-abbrev pub PlayedOn : Game → Board → List ℕ → Members → Growth → List ℕ → List ℕ → List ℕ → ℕ → ℕ → Type 0
-PlayedOn g board block members growth lower parents names made clear =
+-- the round after the splits of the log of a run of g is worked out
+abbrev pub PlayedOn : Game → Board → List ℕ → Members → Growth → List ℕ → SplitLog → ℕ → Type 0
+PlayedOn g board block members growth lower log clear =
     let moves = board.moves in
-    Played g board.side moves.states moves.moves board.objective board.turn.now board.starts.now moves.from.now moves.to.now moves.last.now moves.before.now moves.need.now board.first.now board.prey.now block members.last.now members.before.now members.size.now growth.have.now growth.hit.now lower growth.queue.now parents names made clear growth.tail
+    Played g board.side moves.states moves.moves board.objective board.turn.now board.starts.now moves.from.now moves.to.now moves.last.now moves.before.now moves.need.now board.first.now board.prey.now block members.last.now members.before.now members.size.now growth.have.now growth.hit.now lower growth.queue.now log.parents.now log.names.now log.made clear growth.tail
 
 -- a run that has stopped
-abbrev pub EndingOn : Board → ℕ → ℕ → ℕ → Bool → List ℕ → List ℕ → List ℕ → Type 0
-EndingOn board allowance clear made lost parents names block =
+abbrev pub EndingOn : Board → ℕ → ℕ → Bool → SplitLog → List ℕ → Type 0
+EndingOn board allowance clear lost log block =
     let moves = board.moves in
-    Ending moves.states moves.moves board.objective allowance clear made lost board.starts.now moves.from.now moves.to.now moves.last.now moves.before.now moves.need.now board.prey.now parents names block
+    Ending moves.states moves.moves board.objective allowance clear log.made lost board.starts.now moves.from.now moves.to.now moves.last.now moves.before.now moves.need.now board.prey.now log.parents.now log.names.now block
 
 -- the last game of a run; where no split was made its lower row is there already
 abbrev pub FinishingOn : Board → ℕ → List ℕ → Members → Growth → List ℕ → Type 0

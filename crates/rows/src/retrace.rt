@@ -9,29 +9,27 @@ ghost use Rattle.rows.specs.Grouped.{RetracingOn};
 use crate::sets;
 use chains::lent::Board;
 use game::Game;
-use runs::log;
+use runs::log::SplitLog;
 
-// The round after `made` splits is lost, and none of the first `clear` rounds is. The first round that is lost, and its
+// The round after the splits of the log is lost, and none of the first `clear` rounds is. The first round that is lost, and its
 // blocks in place of those of the last round.
 pub fn first_lost(
     board: &Board<'_>,
     clear: usize,
-    made: usize,
-    parents: &[u16],
-    names: &[u16],
+    log: &SplitLog<'_>,
     block: &mut [u16],
 ) -> usize
-    requires { RetracingOn board.now clear made parents.now names.now block.old }
-    ensures { ((t : RetracingOn board.now clear made parents.now names.now block.old) → Bisecting t.game result result × Holds board.now.moves.states block.new (block_at (round lowest_first result t.game))) × (result ≤ made) × (made ≡ 0 → block.new ≡ block.old) }
+    requires { RetracingOn board.now clear log.now block.old }
+    ensures { ((t : RetracingOn board.now clear log.now block.old) → Bisecting t.game result result × Holds board.now.moves.states block.new (block_at (round lowest_first result t.game))) × (result ≤ log.now.made) × (log.now.made ≡ 0 → block.new ≡ block.old) }
 {
     let n = board.moves.states;
     let mut earlier = [0u16; Game::MAX_STATES];
     let mut low = clear;
-    let mut high = made;
+    let mut high = log.made;
     while low < high {
         let middle = low + (high - low) / 2;
         sets::copy_row(n, block, &mut earlier);
-        log::earlier_blocks(n, high, middle, parents, names, &mut earlier);
+        log.rewind(n, high, middle, &mut earlier);
         if sets::may_have_way(board, &earlier) {
             low = middle + 1;
         } else {

@@ -11,9 +11,9 @@ use Rattle.rows.proofs.retrace.first_lost.Given as goal
 
 abbrev pub invariant-loop-low : goal.invariant-loop-low
 invariant-loop-low l =
-    (l.low ≤ l.high) × (l.high ≤ l.made)
-    × ((t : RetracingOn l.board l.clear l.made l.parents l.names l.initial.block) → Bisecting t.game l.low l.high × Holds l.n l.block (block_at (round lowest_first l.high t.game)))
-    × (length l.block ≡ length l.initial.block) × (length l.earlier ≡ 512) × (l.made ≡ 0 → l.block ≡ l.initial.block)
+    (l.low ≤ l.high) × (l.high ≤ l.log.made)
+    × ((t : RetracingOn l.board l.clear l.log l.initial.block) → Bisecting t.game l.low l.high × Holds l.n l.block (block_at (round lowest_first l.high t.game)))
+    × (length l.block ≡ length l.initial.block) × (length l.earlier ≡ 512) × (l.log.made ≡ 0 → l.block ≡ l.initial.block)
 
 abbrev pub decreases-loop-low : goal.decreases-loop-low
 decreases-loop-low l = l.high - l.low
