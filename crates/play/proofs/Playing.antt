@@ -18,6 +18,7 @@ use Rattle.game.specs.Limits.{max_states}
 use Rattle.game.specs.Game.{marked, block_at}
 use Rattle.game.specs.Published.{goal_of}
 use Rattle.game.specs.Accepted.{AcceptedGame}
+use Rattle.game.specs.declared.BlockNo.{BlockNo}
 use Rattle.game.specs.declared.Game.{Game}
 use Rattle.blocks.specs.Blocks.{block_count, is_block}
 use Rattle.blocks.proofs.Split.{block_count-le}

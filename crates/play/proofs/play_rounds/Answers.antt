@@ -1,135 +1,120 @@
 -- `play_rounds` meets its contract: before each round the rows are those of the rounds played.
 use Prim.Native.Nat.{◌+◌, ◌≤◌, zero-le}
 use native.Mathlib.Nat.{le_refl}
-use mathlib.Core.Path.{refl, sym, ◌∙◌}
+use mathlib.Core.Path.{refl, sym, ap, ◌∙◌}
 use mathlib.Core.Bool.{not}
 use borrow.Author.Tests.{not-false}
-use lib.ListN.{length-set}
+use lib.ListN.{length, length-set}
 use Rattle.runs.specs.Run.{lowest_first, round}
 use Rattle.runs.specs.First.{CatchableBefore}
 use Rattle.rows.specs.RoundRows.{Next}
 use Rattle.runs.proofs.First.{catchable-more}
 use Rattle.rows.proofs.Present.{few-states}
 use Rattle.rows.proofs.Bordering.{searched}
-use Rattle.play.proofs.Playing.{play-first, underway, twice_fits, due_fits, more_fits, made_offset, in_log, clear_on, less_left, allowed-next, next_fits, some_made, stop_caught, uncaught_now, open_now, stop_last, next_here, play-next, neither}
+use Rattle.play.proofs.Playing.{play-first, underway, twice_fits, due_fits, more_fits, in_log, clear_on, less_left, allowed-next, next_fits, some_made, stop_caught, uncaught_now, open_now, stop_last, next_here, play-next, neither}
 use Rattle.play.proofs.play_rounds.Goals as goal
 use Rattle.play.proofs.play_rounds.Goals.{then-is_due+else-is_last, else-is_due}
 
-pub loop-n-init : goal.loop-n-init
-loop-n-init c = ((λ v. (play-first _ _ v, λ _. refl)), zero-le, refl, refl, refl, refl, refl, refl, refl, refl, refl, refl)
+pub rounds-init : goal.rounds-init
+rounds-init c = ((λ v. (play-first _ _ v, λ _. refl)), zero-le, refl, refl, refl, refl)
 
 pub has_way-requires : goal.has_way-requires
-has_way-requires c = (let y = (c.loop-n.invariant.0 c.requires.begun).0 in (few-states y.present, y.present.starts_is.long, y.lowered.grown.counted.row-long))
+has_way-requires c = (let y = (c.rounds.invariant.0 c.requires.begun).0 in (few-states y.present, y.present.starts_is.long, y.lowered.grown.counted.row-long))
 
 pub returns-then-has_way : goal.returns-then-has_way
-returns-then-has_way c = λ v. let y = c.loop-n.invariant.0 v in (y.0, stop_caught v.present.accepted y.0 c.loop-n.invariant.1 y.1 c.has_way.ensures c.if-has_way.true)
+returns-then-has_way c = λ v. let y = c.rounds.invariant.0 v in (y.0, stop_caught v.present.accepted y.0 c.rounds.invariant.1 y.1 c.has_way.ensures c.if-has_way.true)
 
 pub border_block-found-requires : goal.border_block-found-requires
-border_block-found-requires c = (let y = (c.loop-n.invariant.0 c.requires.begun).0 in ((round lowest_first c.loop-n.made c.requires.begun.game, searched y.present y.lowered), y.lowered.grown.counted.row-long, y.lowered.grown.hit_is.long))
+border_block-found-requires c = (let y = (c.rounds.invariant.0 c.requires.begun).0 in ((round lowest_first c.rounds.log.made c.requires.begun.game, searched y.present y.lowered), y.lowered.grown.counted.row-long, y.lowered.grown.hit_is.long))
 
 pub upper_row-upper-requires : goal.upper_row-upper-requires
-upper_row-upper-requires c = underway c.requires.begun.present.accepted (c.loop-n.invariant.0 c.requires.begun).0
+upper_row-upper-requires c = underway c.requires.begun.present.accepted (c.rounds.invariant.0 c.requires.begun).0
 
 pub has_way-lost-requires : goal.has_way-lost-requires
-has_way-lost-requires c = (let y = (c.loop-n.invariant.0 c.requires.begun).0 in (few-states y.present, y.present.starts_is.long, (c.upper_row-upper.ensures (underway c.requires.begun.present.accepted y)).long))
+has_way-lost-requires c = (let y = (c.rounds.invariant.0 c.requires.begun).0 in (few-states y.present, y.present.starts_is.long, (c.upper_row-upper.ensures (underway c.requires.begun.present.accepted y)).long))
 
 pub returns-then-is_last : goal.returns-then-is_last
 returns-then-is_last c =
     λ v.
-    let y = c.loop-n.invariant.0 v in
+    let y = c.rounds.invariant.0 v in
     let ok = v.present.accepted in
-    (y.0, stop_last ok y.0 c.has_way.ensures c.if-has_way.false (c.border_block-found.ensures (round lowest_first c.loop-n.made v.game) (searched y.0.present y.0.lowered)) c.args.allowance c.is_over-over.ensures c.loop-n.invariant.1 y.1 (c.upper_row-upper.ensures (underway ok y.0)) c.has_way-lost.ensures c.is_last.ensures c.if-is_last.true)
+    (y.0, stop_last ok y.0 c.has_way.ensures c.if-has_way.false (c.border_block-found.ensures (round lowest_first c.rounds.log.made v.game) (searched y.0.present y.0.lowered)) c.args.allowance c.is_over-over.ensures c.rounds.invariant.1 y.1 (c.upper_row-upper.ensures (underway ok y.0)) c.has_way-lost.ensures c.is_last.ensures c.if-is_last.true)
 
 pub overflow_mul-due : goal.overflow_mul-due
-overflow_mul-due c = twice_fits c.requires.begun.present.accepted (c.loop-n.invariant.0 c.requires.begun).0
+overflow_mul-due c = twice_fits c.requires.begun.present.accepted (c.rounds.invariant.0 c.requires.begun).0
 
 pub overflow_add-due : goal.overflow_add-due
-overflow_add-due c = due_fits c.requires.begun.present.accepted (c.loop-n.invariant.0 c.requires.begun).0
+overflow_add-due c = due_fits c.requires.begun.present.accepted (c.rounds.invariant.0 c.requires.begun).0
 
 pub overflow_add-clear : goal.overflow_add-clear
-overflow_add-clear c = more_fits c.requires.begun.present.accepted (c.loop-n.invariant.0 c.requires.begun).0
+overflow_add-clear c = more_fits c.requires.begun.present.accepted (c.rounds.invariant.0 c.requires.begun).0
 
-pub split_round-step-requires : goal.split_round-step-requires
-split_round-step-requires c =
+pub split_round-name-requires : goal.split_round-name-requires
+split_round-name-requires c =
     (let v = c.requires.begun in
-    let y = (c.loop-n.invariant.0 v).0 in
+    let y = (c.rounds.invariant.0 v).0 in
     let ok = v.present.accepted in (
       underway ok y,
-      rw c.block_number-b.ensures (next_here ok y c.has_way.ensures c.if-has_way.false (c.border_block-found.ensures (round lowest_first c.loop-n.made v.game) (searched y.present y.lowered)) c.args.allowance c.is_over-over.ensures (elim c.if-is_due.branch [
+      rw c.block_number-b.ensures (next_here ok y c.has_way.ensures c.if-has_way.false (c.border_block-found.ensures (round lowest_first c.rounds.log.made v.game) (searched y.present y.lowered)) c.args.allowance c.is_over-over.ensures (elim c.if-is_due.branch [
         | then-is_due+else-is_last w ↦ (neither _ _ w.is_last.ensures w.if-is_last.false).0
         | else-is_due w ↦ (neither _ _ c.is_due.ensures w.if-is_due.false).0
       ])),
     ))
 
-pub overflow_cast-parents : goal.overflow_cast-parents
-overflow_cast-parents c =
+pub overflow_cast-b : goal.overflow_cast-b
+overflow_cast-b c =
     let v = c.requires.begun in
-    let y = (c.loop-n.invariant.0 v).0 in
+    let y = (c.rounds.invariant.0 v).0 in
     let ok = v.present.accepted in
-    next_fits ok y c.has_way.ensures c.if-has_way.false (c.border_block-found.ensures (round lowest_first c.loop-n.made v.game) (searched y.present y.lowered)) c.args.allowance c.is_over-over.ensures (elim c.if-is_due.branch [
+    next_fits ok y c.has_way.ensures c.if-has_way.false (c.border_block-found.ensures (round lowest_first c.rounds.log.made v.game) (searched y.present y.lowered)) c.args.allowance c.is_over-over.ensures (elim c.if-is_due.branch [
       | then-is_due+else-is_last w ↦ (neither _ _ w.is_last.ensures w.if-is_last.false).0
       | else-is_due w ↦ (neither _ _ c.is_due.ensures w.if-is_due.false).0
     ]) c.block_number-b.ensures
 
-pub offset_bounds-parents-made : goal.offset_bounds-parents-made
-offset_bounds-parents-made c = made_offset c.requires.begun.present.accepted (c.loop-n.invariant.0 c.requires.begun).0
+pub note-requires : goal.note-requires
+note-requires c =
+    let ok = c.requires.begun.present.accepted in
+    let y = (c.rounds.invariant.0 c.requires.begun).0 in
+    (in_log ok y c.requires.room.0 c.rounds.invariant.4, in_log ok y c.requires.room.1 c.rounds.invariant.5)
 
-pub bounds-parents-made : goal.bounds-parents-made
-bounds-parents-made c = in_log c.requires.begun.present.accepted (c.loop-n.invariant.0 c.requires.begun).0 c.requires.room.0 c.loop-n.invariant.10
-
-pub offset_bounds-names-made : goal.offset_bounds-names-made
-offset_bounds-names-made c = made_offset c.requires.begun.present.accepted (c.loop-n.invariant.0 c.requires.begun).0
-
-pub bounds-names-made : goal.bounds-names-made
-bounds-names-made c = in_log c.requires.begun.present.accepted (c.loop-n.invariant.0 c.requires.begun).0 c.requires.room.1 c.loop-n.invariant.11
-
-pub overflow_add-made : goal.overflow_add-made
-overflow_add-made c = more_fits c.requires.begun.present.accepted (c.loop-n.invariant.0 c.requires.begun).0
-
-pub loop-n-smaller : goal.loop-n-smaller
-loop-n-smaller c =
+pub rounds-smaller : goal.rounds-smaller
+rounds-smaller c =
     let v = c.requires.begun in
-    let y = (c.loop-n.invariant.0 v).0 in
+    let y = (c.rounds.invariant.0 v).0 in
     let ok = v.present.accepted in
-    less_left ok y c.has_way.ensures c.if-has_way.false (c.border_block-found.ensures (round lowest_first c.loop-n.made v.game) (searched y.present y.lowered)) c.args.allowance c.is_over-over.ensures (elim c.if-is_due.branch [
+    rw c.note.ensures.made (less_left ok y c.has_way.ensures c.if-has_way.false (c.border_block-found.ensures (round lowest_first c.rounds.log.made v.game) (searched y.present y.lowered)) c.args.allowance c.is_over-over.ensures (elim c.if-is_due.branch [
       | then-is_due+else-is_last w ↦ (neither _ _ w.is_last.ensures w.if-is_last.false).0
       | else-is_due w ↦ (neither _ _ c.is_due.ensures w.if-is_due.false).0
-    ]) c.loop-n.invariant.1
+    ]) c.rounds.invariant.1)
 
-pub loop-n-preserved : goal.loop-n-preserved
-loop-n-preserved c =
-    let inv = c.loop-n.invariant in (
+pub rounds-preserved : goal.rounds-preserved
+rounds-preserved c =
+    let inv = c.rounds.invariant in (
       (λ v.
           let y = (inv.0 v).0 in
           let ok = v.present.accepted in
           let way = c.has_way.ensures in
           let named = c.block_number-b.ensures in
-          let next : Next (round lowest_first c.loop-n.made v.game) c.args.n c.loop-n.block c.block_number-b.result = rw named (next_here ok y way c.if-has_way.false (c.border_block-found.ensures (round lowest_first c.loop-n.made v.game) (searched y.present y.lowered)) c.args.allowance c.is_over-over.ensures (elim c.if-is_due.branch [
+          let next : Next (round lowest_first c.rounds.log.made v.game) c.args.board.now.moves.states c.rounds.block c.block_number-b.result = rw named (next_here ok y way c.if-has_way.false (c.border_block-found.ensures (round lowest_first c.rounds.log.made v.game) (searched y.present y.lowered)) c.args.allowance c.is_over-over.ensures (elim c.if-is_due.branch [
             | then-is_due+else-is_last w ↦ (neither _ _ w.is_last.ensures w.if-is_last.false).0
             | else-is_due w ↦ (neither _ _ c.is_due.ensures w.if-is_due.false).0
           ])) in
-          let split = c.split_round-step.ensures in
-          let more : CatchableBefore v.game c.if-is_due.clear × (c.if-is_due.clear ≤ c.loop-n.made + 1) =
+          let split = c.split_round-name.ensures in
+          let more : CatchableBefore v.game c.if-is_due.clear × (c.if-is_due.clear ≤ c.rounds.log.made + 1) =
           elim c.if-is_due.branch [
             | then-is_due+else-is_last w ↦ (
-              rw w.clear-is (catchable-more v.game ok c.loop-n.made (sym (open_now ok y way c.if-has_way.false (w.upper_row-upper.ensures (underway ok y)) w.has_way-lost.ensures) ∙ not-false w.has_way-lost.result (neither c.is_over-over.result (not w.has_way-lost.result) w.is_last.ensures w.if-is_last.false).1)),
-              rw w.clear-is (le_refl (c.loop-n.made + 1)),
+              rw w.clear-is (catchable-more v.game ok c.rounds.log.made (sym (open_now ok y way c.if-has_way.false (w.upper_row-upper.ensures (underway ok y)) w.has_way-lost.ensures) ∙ not-false w.has_way-lost.result (neither c.is_over-over.result (not w.has_way-lost.result) w.is_last.ensures w.if-is_last.false).1)),
+              rw w.clear-is (le_refl (c.rounds.log.made + 1)),
             )
             | else-is_due w ↦ (rw w.clear-is y.hope, rw w.clear-is (clear_on ok y))
           ] in
-          (play-next ok y next split.named c.if-is_due.clear {finer = c.split_round-step.new.block} {last₁ = c.split_round-step.new.last_member} {before₁ = c.split_round-step.new.member_before} {size₁ = c.split_round-step.new.size} {have₁ = c.split_round-step.new.have} {hit₁ = c.split_round-step.new.hit} {lower₁ = c.split_round-step.new.lower} {queue₁ = c.split_round-step.new.queue} {tail₁ = c.split_round-step.result.tail} (uncaught_now ok y way c.if-has_way.false) more.0 more.1 (in_log ok y c.requires.room.0 inv.10) (in_log ok y c.requires.room.1 inv.11) (split.split (underway ok y) next).0 (split.split (underway ok y) next).1, λ z. absurd (some_made c.loop-n.made z))),
-      (let v = c.requires.begun in let y = (inv.0 v).0 in let ok = v.present.accepted in allowed-next ok y c.has_way.ensures c.if-has_way.false (c.border_block-found.ensures (round lowest_first c.loop-n.made v.game) (searched y.present y.lowered)) c.args.allowance c.is_over-over.ensures (elim c.if-is_due.branch [
+          (rw (c.note.ensures.parents, c.note.ensures.names, c.note.ensures.made) (play-next ok y next split.named c.if-is_due.clear {finer = c.split_round-name.new.block} {last₁ = c.split_round-name.new.members.last.now} {before₁ = c.split_round-name.new.members.before.now} {size₁ = c.split_round-name.new.members.size.now} {have₁ = c.split_round-name.new.growth.have.now} {hit₁ = c.split_round-name.new.growth.hit.now} {lower₁ = c.split_round-name.new.lower} {queue₁ = c.split_round-name.new.growth.queue.now} {tail₁ = c.split_round-name.new.growth.tail} (uncaught_now ok y way c.if-has_way.false) more.0 more.1 (in_log ok y c.requires.room.0 inv.4) (in_log ok y c.requires.room.1 inv.5) (split.split (underway ok y) next).0 (split.split (underway ok y) next).1), λ z. absurd (some_made c.rounds.log.made (sym c.note.ensures.made ∙ z)))),
+      (let v = c.requires.begun in let y = (inv.0 v).0 in let ok = v.present.accepted in rw c.note.ensures.made (allowed-next ok y c.has_way.ensures c.if-has_way.false (c.border_block-found.ensures (round lowest_first c.rounds.log.made v.game) (searched y.present y.lowered)) c.args.allowance c.is_over-over.ensures (elim c.if-is_due.branch [
         | then-is_due+else-is_last w ↦ (neither _ _ w.is_last.ensures w.if-is_last.false).0
         | else-is_due w ↦ (neither _ _ c.is_due.ensures w.if-is_due.false).0
-      ]) inv.1),
+      ]) inv.1)),
       c.block-1.given ∙ inv.2,
-      c.last_member-1.given ∙ inv.3,
-      c.member_before-1.given ∙ inv.4,
-      c.size-1.given ∙ inv.5,
-      c.have-1.given ∙ inv.6,
-      c.hit-1.given ∙ inv.7,
-      c.lower-1.given ∙ inv.8,
-      c.queue-1.given ∙ inv.9,
-      length-set c.loop-n.parents c.loop-n.made c.block_number-b.result ∙ inv.10,
-      length-set c.loop-n.names c.loop-n.made c.split_round-step.result.name ∙ inv.11,
+      c.lower-1.given ∙ inv.3,
+      ap length c.note.ensures.parents ∙ length-set c.rounds.log.parents.now c.rounds.log.made c.block_number-b.result ∙ inv.4,
+      ap length c.note.ensures.names ∙ length-set c.rounds.log.names.now c.rounds.log.made c.split_round-name.result ∙ inv.5,
     )
