@@ -1,19 +1,25 @@
 -- The ends of the solver: refusals, and the rows that are written.
 use mathlib.Core.Path.{◌≡◌, refl, sym, ap, subst, ◌∙◌}
 use mathlib.Core.Bool.{◌&&◌}
-use mathlib.Core.List.{List}
+use mathlib.Core.List.{List, ◌++◌}
 use Prim.Native.Nat.{ℕ, zero, suc, ◌≤◌, ◌<◌}
 use native.Mathlib.Omega.{arith}
-use lib.ListN.{length, get_or}
+use lib.ListN.{length, get_or, take, drop}
+use Rattle.std.proofs.lemmas.List.{length-take-le, get_or-take}
 use lib.Dec.{leb}
 use borrow.Author.Tests.{le-leb, lt-leb}
 use Rattle.game.specs.Limits.{max_states}
 use Rattle.game.specs.Rows.{fill, zeros}
 use Rattle.game.specs.declared.Game.{Game}
-use Rattle.game.proofs.Rows.{fill_at, fill_cong}
+use Rattle.game.proofs.Rows.{fill_at, fill_cong, fill-row}
 use Rattle.game.specs.Game.{turn_at}
-use Rattle.file.specs.Fault.{◌then◌, refused_or, kept_or}
+use Rattle.std.specs.Prelude.{Ok, Err}
+use Rattle.file.specs.declared.refusal.Refusal.{Refusal}
+use Rattle.file.specs.declared.refusal.Refusal.TheVariants.{ShortRow}
+use Rattle.file.specs.Number.{number, refused}
+use Rattle.file.specs.Fault.{◌then◌, refused_or, answered, kept_or}
 use Rattle.file.specs.Refusals.{refusal}
+use Rattle.file.proofs.Numbers.{refused_number, number_range}
 use Rattle.arena.proofs.Choices.{both, first-not, second_not}
 use Rattle.file.proofs.Laws.{unless-last, unless-end}
 use Rattle.chains.specs.Lent.{Holds}
@@ -22,8 +28,9 @@ use Rattle.solver.specs.Rules.{mark}
 use Rattle.solver.specs.Solve.{decision_of, run_of, verdict_of, answer_to, Rows, written_rows, short_row, solve_fault, Outcome, solved}
 use Rattle.solver.specs.Work.{mark_no, Finished, Planning, decision_by, HandedBack}
 use Rattle.solver.specs.declared.Verdict.{Verdict}
-use Rattle.solver.specs.declared.Verdict.TheVariants.{Refused}
 use Rattle.solver.proofs.Marks.{mark_is, decision_is}
+
+-- ## Refusals
 
 -- ## Refusals
 
@@ -48,36 +55,42 @@ module _ (lent : Rows) where
   long-rows a b c =
       unless-end _ 1 (both _ _ (both _ _ (le-leb max_states (length lent.marks) a) (le-leb max_states (length lent.blocks) b)) (le-leb max_states (length lent.moves) c))
 
--- a refusal is its number alone, and all rows keep their content; otherwise what was worked out is handed back
+-- a refusal is given alone, and all rows keep their content; otherwise what was worked out is handed back
 pub solved_is : (f : List ℕ) (allowance : ℕ) (lent : Rows)
     → solved f allowance lent
-    ≡ refused_or (λ e. record { answer = Refused e; rows = lent }) (solve_fault f lent)
-    (record { answer = verdict_of (run_of f allowance); rows = written_rows (run_of f allowance).last lent })
+    ≡ refused_or (λ e. record { answer = Err (refused e); rows = lent }) (solve_fault f lent)
+    (record { answer = Ok (verdict_of (run_of f allowance)); rows = written_rows (run_of f allowance).last lent })
 unfolding solved solve_fault answer_to ◌then◌
 solved_is f allowance lent = go (short_row lent) (refusal f)
   where
     go : (short file : ℕ) → ◌≡◌ {A = Outcome}
-        (record { answer = refused_or Refused short (refused_or Refused file (verdict_of (run_of f allowance))); rows = kept_or lent (short then file) (written_rows (run_of f allowance).last lent) })
-        (refused_or (λ e. record { answer = Refused e; rows = lent }) (short then file) (record { answer = verdict_of (run_of f allowance); rows = written_rows (run_of f allowance).last lent }))
+        (record { answer = refused_or (λ e. Err (refused e)) short (answered file (verdict_of (run_of f allowance))); rows = kept_or lent (short then file) (written_rows (run_of f allowance).last lent) })
+        (refused_or (λ e. record { answer = Err (refused e); rows = lent }) (short then file) (record { answer = Ok (verdict_of (run_of f allowance)); rows = written_rows (run_of f allowance).last lent }))
     go zero zero = refl
     go zero (suc e) = refl
     go (suc e) file = refl
 
 module _ (f : List ℕ) (allowance : ℕ) (lent : Rows) where
-  -- a row is too short: 1, whatever the file
-  pub refused-row : 1 ≡ short_row lent → record { answer = Refused 1; rows = lent } ≡ solved f allowance lent
+  -- a row is too short: that is told, whatever the file
+  pub refused-row : 1 ≡ short_row lent → record { answer = Err ShortRow; rows = lent } ≡ solved f allowance lent
   unfolding solve_fault ◌then◌
   refused-row short = rw (solved_is f allowance lent, ← short)
 
   -- the file is refused
-  pub refused-file : 0 ≡ short_row lent → (e : ℕ) → e ≡ refusal f → (e ≡ 0 → ⊥) → record { answer = Refused e; rows = lent } ≡ solved f allowance lent
+  pub refused-file : 0 ≡ short_row lent → (r : Refusal) → number r ≡ refusal f → record { answer = Err r; rows = lent } ≡ solved f allowance lent
   unfolding solve_fault ◌then◌
-  refused-file long zero p some = absurd (some refl)
-  refused-file long (suc e) p some = rw (solved_is f allowance lent, ← long, ← p)
+  refused-file long r p = rw (solved_is f allowance lent, ← long, ← p) (go (number r) (number_range r).0 (refused_number r))
+    where
+      done : Outcome
+      done = record { answer = Ok (verdict_of (run_of f allowance)); rows = written_rows (run_of f allowance).last lent }
+
+      go : (e : ℕ) → 1 ≤ e → refused e ≡ r → record { answer = Err r; rows = lent } ≡ refused_or (λ e. record { answer = Err (refused e); rows = lent }) e done
+      go zero low same = absurd (omega arith)
+      go (suc e) low same = ap (λ (x : Refusal). record { answer = Err x; rows = lent }) (sym same)
 
   -- neither: what was worked out is handed back
   pub handed : 0 ≡ short_row lent → refusal f ≡ 0 → {v : Verdict} {rows : Rows} → HandedBack (run_of f allowance) lent v rows
-      → record { answer = v; rows = rows } ≡ solved f allowance lent
+      → record { answer = Ok v; rows = rows } ≡ solved f allowance lent
   unfolding solve_fault ◌then◌
   handed long taken back = rw (solved_is f allowance lent, ← long, taken, back.0, back.1)
 
@@ -121,3 +134,10 @@ module _ {g : Game} {n m objective : ℕ} {turn starts from to block low up : Li
       → out ≡ fill n (λ s. get_or values s 0) row → out ≡ fill g.states F row
   written F values row out places e =
       e ∙ fill_cong n (λ s. get_or values s 0) F row (λ s l. places s (omega (arith, f.states_is))) ∙ ap (λ (k : ℕ). fill k F row) (sym f.states_is)
+
+-- the first places of a row, copied over those of another
+pub copied : (n : ℕ) (values out : List ℕ) → n ≤ length values → take n values ++ drop n out ≡ fill n (λ s. get_or values s 0) out
+copied n values out l =
+    let e : length (take n values) ≡ n = length-take-le n values l in
+    subst (λ (k : ℕ). take n values ++ drop k out ≡ fill k (λ s. get_or values s 0) out) e
+    (sym (fill-row (take n values) (λ s. get_or values s 0) 0 out (λ k m. sym (get_or-take n values k 0 (omega (arith, e, m))))))

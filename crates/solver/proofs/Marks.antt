@@ -4,9 +4,12 @@ use mathlib.Core.Bool.{Bool, true, false, not, ◌&&◌, cond, true≢false}
 use mathlib.Core.List.{List}
 use Prim.Native.Nat.{ℕ, ◌<◌}
 use native.Mathlib.Nat.{le_refl}
+use native.Mathlib.Omega.{arith}
 use lib.ListN.{get_or}
 use lib.Dec.{eqb, leb}
 use borrow.Author.Tests.{eq-eqb, ne_eqb}
+use Rattle.std.specs.Prelude.{Some, None}
+use Rattle.std.specs.Option.{is_some}
 use Rattle.arena.specs.Sets.{Set, some, least}
 use Rattle.arena.specs.Arena.{Arena}
 use Rattle.arena.specs.Win.{Goal, to_reach, to_stay}
@@ -14,6 +17,7 @@ use Rattle.arena.proofs.Tests.{not-not, is_true, holds}
 use Rattle.arena.proofs.Least.{least-none, least-done, least_cong}
 use Rattle.game.specs.Game.{state_no, marks_at, block_at, initials, targets}
 use Rattle.game.specs.Published.{goal_of, arena_of}
+use Rattle.game.specs.declared.StateNo.{StateNo}
 use Rattle.game.specs.declared.Game.{Game}
 use Rattle.blocks.specs.Round.{sure, possible, inside_step}
 use Rattle.blocks.specs.Hunt.{hunter, prey, lower, upper}
@@ -24,8 +28,9 @@ use Rattle.growth.proofs.Stamp.{stamp-grow}
 use Rattle.runs.specs.Run.{sure_states, possible_states, YES, NO, OPEN, word, named_start}
 use Rattle.runs.specs.Hunting.{hunting_side, prey_states, lower_states, upper_states}
 use Rattle.solver.specs.Rules.{mark}
-use Rattle.solver.specs.Work.{mark_no, Worked, lowest_start, decision_by}
+use Rattle.solver.specs.Work.{mark_no, Worked, lowest_start, start_found, decision_by}
 use Rattle.solver.specs.Solve.{decision_of}
+use Rattle.solver.specs.declared.Decision.{Decision}
 use Rattle.solver.specs.declared.Decision.TheVariants.{Yes, No, Open}
 
 -- ## Marks
@@ -133,15 +138,15 @@ least_told n X = go (some n X) refl
 module _ (g : Game) (starts marks : List ℕ) (starts-are : (s : ℕ) → s < g.states → get_or starts s 0 ≡ marks_at g s)
     (marks_are : (s : ℕ) → s < g.states → get_or marks s 0 ≡ mark g s) where
   -- what a search by marks finds
-  start_found : (k : ℕ) (X : Set) → ((s : ℕ) → s < g.states → leb k (mark g s) ≡ X s)
+  found_least : (k : ℕ) (X : Set) → ((s : ℕ) → s < g.states → leb k (mark g s) ≡ X s)
       → lowest_start g.states starts marks k ≡ least g.states (λ s. initials g s && X s)
-  start_found k X h = least_cong g.states _ _ (λ s l. rw (starts-are s l, marks_are s l, h s l) refl)
+  found_least k X h = least_cong g.states _ _ (λ s l. rw (starts-are s l, marks_are s l, h s l) refl)
 
   -- what a round says by its marks is what its word says
   pub decision_is : decision_by g.states starts marks ≡ decision_of (word g) g
   unfolding decision_by word named_start
   decision_is =
-      rw (start_found 1 (possible_states g) (mark-possible g), start_found 2 (sure_states g) (λ s _. mark-sure g s))
+      rw (found_least 1 (possible_states g) (mark-possible g), found_least 2 (sure_states g) (λ s _. mark-sure g s))
       (rw (least_told g.states maybe, least_told g.states surely) (go (some g.states maybe) (some g.states surely)))
     where
       maybe : Set
@@ -157,19 +162,40 @@ module _ (g : Game) (starts marks : List ℕ) (starts-are : (s : ℕ) → s < g.
 
 -- ## The decision, from what two searches gave
 
-module _ (n : ℕ) (starts marks : List ℕ) (r : ℕ) (p : r ≡ lowest_start n starts marks 1) where
+module _ (n : ℕ) (starts marks : List ℕ) where
+  module _ (wanted : ℕ) where
+    pub found-none : n ≡ lowest_start n starts marks wanted → None ≡ start_found n starts marks wanted
+    found-none e = rw (eq-eqb (lowest_start n starts marks wanted) n (sym e)) refl
+
+    pub found_start : (s : ℕ) → s < n → s ≡ lowest_start n starts marks wanted → Some (state_no s) ≡ start_found n starts marks wanted
+    found_start s l e = rw (ne_eqb (lowest_start n starts marks wanted) n (λ q. omega (arith, q, e)), e) refl
+
   -- no start is at least open
-  pub decided_no : r ≡ n → No ≡ decision_by n starts marks
+  pub decided_no : is_some (start_found n starts marks 1) ≡ false → No ≡ decision_by n starts marks
   unfolding decision_by
-  decided_no e = rw (eq-eqb _ _ (sym p ∙ e)) refl
+  decided_no = go (eqb (lowest_start n starts marks 1) n) _ _
+    where
+      go : (b : Bool) (v : StateNo) (d : Decision) → is_some (cond b None (Some v)) ≡ false → No ≡ cond b No d
+      go true v d p = refl
+      go false v d p = absurd (true≢false p)
 
-  module _ (v : ℕ) (q : v ≡ lowest_start n starts marks 2) (some-open : r ≡ n → ⊥) where
+  module _ (some-open : is_some (start_found n starts marks 1) ≡ true) where
     -- some start is open, and none is sure
-    pub decided_open : v ≡ n → Open ≡ decision_by n starts marks
+    pub decided_open : None ≡ start_found n starts marks 2 → Open ≡ decision_by n starts marks
     unfolding decision_by
-    decided_open e = rw (ne_eqb _ _ (λ h. some-open (p ∙ h)), eq-eqb _ _ (sym q ∙ e)) refl
+    decided_open = go (eqb (lowest_start n starts marks 1) n) (eqb (lowest_start n starts marks 2) n) _ _ some-open
+      where
+        go : (b d : Bool) (v s : StateNo) → is_some (cond b None (Some v)) ≡ true → None ≡ cond d None (Some s) → Open ≡ cond b No (cond d Open (Yes s))
+        go true d v s p q = absurd (true≢false (sym p))
+        go false true v s p q = refl
+        go false false v s p q = let z : ◌≡◌ {A = ℕ} 0 1 = cc in absurd (omega arith)
 
-    -- v is the lowest start that is sure
-    pub decided_yes : (v ≡ n → ⊥) → Yes (state_no v) ≡ decision_by n starts marks
+    -- s is the lowest start that is sure
+    pub decided_yes : (s : StateNo) → Some s ≡ start_found n starts marks 2 → Yes s ≡ decision_by n starts marks
     unfolding decision_by
-    decided_yes ne = rw (ne_eqb _ _ (λ h. some-open (p ∙ h)), ne_eqb _ _ (λ h. ne (q ∙ h)), q) refl
+    decided_yes s = go (eqb (lowest_start n starts marks 1) n) (eqb (lowest_start n starts marks 2) n) _ _ some-open
+      where
+        go : (b d : Bool) (v t : StateNo) → is_some (cond b None (Some v)) ≡ true → Some s ≡ cond d None (Some t) → Yes s ≡ cond b No (cond d Open (Yes t))
+        go true d v t p q = absurd (true≢false (sym p))
+        go false true v t p q = let z : ◌≡◌ {A = ℕ} 0 1 = cc in absurd (omega arith)
+        go false false v t p q = cc

@@ -1,10 +1,12 @@
 -- 01, 'What is handed back': the answer to a file, and what is handed back in three lent rows.
-use Rattle.std.specs.Prelude.{ℕ, ◌&&◌, List, length, leb}
+use Rattle.std.specs.Prelude.{ℕ, ◌&&◌, List, length, leb, Result, Err}
 use Rattle.game.specs.Limits.{max_states}
 use Rattle.game.specs.Rows.{fill}
 use Rattle.game.specs.Game.{state_no, block_at}
 use Rattle.game.specs.declared.Game.{Game}
-use Rattle.file.specs.Fault.{unless, ◌then◌, refused_or, kept_or}
+use Rattle.file.specs.declared.refusal.Refusal.{Refusal}
+use Rattle.file.specs.Number.{refused}
+use Rattle.file.specs.Fault.{unless, ◌then◌, refused_or, answered, kept_or}
 use Rattle.file.specs.Refusals.{refusal}
 use Rattle.decoding.specs.Decode.{game_of}
 use Rattle.runs.specs.Run.{lowest_first, Word, YES, NO, OPEN, word, named_start, Run, run}
@@ -12,7 +14,7 @@ use Rattle.solver.specs.Rules.{mark, planned}
 use Rattle.solver.specs.declared.Decision.{Decision}
 use Rattle.solver.specs.declared.Decision.TheVariants.{Yes, No, Open}
 use Rattle.solver.specs.declared.Verdict.{Verdict}
-use Rattle.solver.specs.declared.Verdict.TheVariants.{Yes as VerdictYes, No as VerdictNo, Open as VerdictOpen, Refused}
+use Rattle.solver.specs.declared.Verdict.TheVariants.{Yes as VerdictYes, No as VerdictNo, Open as VerdictOpen}
 
 -- ## The answer, which knows no rows
 
@@ -37,8 +39,8 @@ abbrev pub verdict_of : Run → Verdict
 verdict_of r = said (decision_of (word r.last) r.last) r.splits
 
 -- 01, 'Refusals in their order': refusals 2 to 11, or the verdict
-unfoldable pub answer_to : List ℕ → ℕ → Verdict
-answer_to f allowance = refused_or Refused (refusal f) (verdict_of (run_of f allowance))
+unfoldable pub answer_to : List ℕ → ℕ → Result Verdict Refusal
+answer_to f allowance = answered (refusal f) (verdict_of (run_of f allowance))
 
 -- ## The rows
 
@@ -69,13 +71,13 @@ solve_fault f lent = short_row lent then refusal f
 
 -- what a call of the solver hands back: its answer, and the rows
 pub record Outcome : Type 0 where
-  pub answer : Verdict
+  pub answer : Result Verdict Refusal
   pub rows : Rows
 
 -- 01, 'What is handed back' and 'Refusals in their order': the outcome of a file, an allowance and three lent rows
 unfoldable pub solved : List ℕ → ℕ → Rows → Outcome
 solved f allowance lent =
     record {
-      answer = refused_or Refused (short_row lent) (answer_to f allowance);
+      answer = refused_or (λ e. Err (refused e)) (short_row lent) (answer_to f allowance);
       rows = kept_or lent (solve_fault f lent) (written_rows (run_of f allowance).last lent);
     }

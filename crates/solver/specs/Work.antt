@@ -1,6 +1,6 @@
 -- What the rows at work hold, for the contracts of internal functions. Nothing that is promised is stated in these terms;
 -- proofs/ has the laws that tie them to 01's words.
-use Rattle.std.specs.Prelude.{ℕ, zero, suc, ◌≤◌, ◌<◌, ◌≡◌, Bool, not, ◌&&◌, cond, List, length, get_or, eqb, leb, ltb, T}
+use Rattle.std.specs.Prelude.{ℕ, zero, suc, ◌≤◌, ◌<◌, ◌≡◌, Bool, not, ◌&&◌, cond, List, length, get_or, eqb, leb, ltb, T, Option, Some, None}
 use Rattle.arena.specs.Sets.{compl, least, bit}
 use Rattle.arena.specs.Arena.{Side, other, same}
 use Rattle.arena.specs.Win.{Goal}
@@ -11,6 +11,7 @@ use Rattle.game.specs.Game.{state_no, marked, turn_at, marks_at, block_at, from_
 use Rattle.game.specs.Published.{goal_of, arena_of, side_of}
 use Rattle.game.specs.Accepted.{AcceptedGame}
 use Rattle.game.specs.Ranged.{Ranged}
+use Rattle.game.specs.declared.StateNo.{StateNo}
 use Rattle.game.specs.declared.Game.{Game}
 use Rattle.blocks.specs.Round.{inside_step}
 use Rattle.blocks.specs.Hunt.{hunter, prey, lower, upper}
@@ -79,6 +80,11 @@ pub record Finished (g : Game) (n m objective : ℕ) (turn starts from to block 
 -- the lowest-numbered start with at least a mark, n where there is none: `starts` holds the marks of the file, `marks` those of the round
 abbrev pub lowest_start : ℕ → List ℕ → List ℕ → ℕ → ℕ
 lowest_start n starts marks wanted = least n (λ s. marked 1 (get_or starts s 0) && leb wanted (get_or marks s 0))
+
+-- that start, if there is one
+abbrev pub start_found : ℕ → List ℕ → List ℕ → ℕ → Option StateNo
+start_found n starts marks wanted =
+    cond (eqb (lowest_start n starts marks wanted) n) None (Some (state_no (lowest_start n starts marks wanted)))
 
 -- what a round says by its marks
 unfoldable pub decision_by : ℕ → List ℕ → List ℕ → Decision

@@ -11,7 +11,7 @@ ghost use Rattle.rows.specs.RoundRows.{Present};
 ghost use Rattle.file.specs.Refusals.{refusal};
 ghost use Rattle.decoding.specs.Decode.{game_of};
 
-use file::{first_refusal, number_at};
+use file::{Refusal, first_refusal, number_at};
 use game::{Game, StateNo};
 
 mod plan;
@@ -20,14 +20,12 @@ mod written;
 // A place for each state, and one for the end of the last state's moves.
 const ENDS: usize = 513;
 
-// What the solver says of a file: YES with the named start and the splits made, NO or OPEN with the splits, or the
-// number of a refusal, 1 to 11.
+// What the solver says of a game: YES with the named start and the splits made, NO or OPEN with the splits.
 #[derive(Clone, Copy)]
 pub enum Verdict {
     Yes(StateNo, u16),
     No(u16),
     Open(u16),
-    Refused(u8),
 }
 
 // What a round says of its game.
@@ -43,15 +41,13 @@ fn decide(n: usize, starts: &[u8], marks: &[u16]) -> Decision
     requires { (n ≤ max_states) × (n ≤ length starts.now) × (n ≤ length marks.now) }
     ensures { result ≡ decision_by n starts.now marks.now }
 {
-    let none = n as u16;
-    if written::lowest_start(n, starts, marks, 1) == none {
+    if written::lowest_start(n, starts, marks, 1).is_none() {
         return Decision::No;
     }
-    let named = written::lowest_start(n, starts, marks, 2);
-    if named == none {
-        return Decision::Open;
+    match written::lowest_start(n, starts, marks, 2) {
+        Some(named) => Decision::Yes(named),
+        None => Decision::Open,
     }
-    Decision::Yes(StateNo(named))
 }
 
 // The verdict of a decision after so many splits.
@@ -207,21 +203,15 @@ pub fn solve(
     marks: &mut [u16],
     blocks: &mut [u16],
     moves: &mut [u16],
-) -> Verdict
+) -> Result<Verdict, Refusal>
     ensures { record { answer = result; rows = record { marks = marks.new; blocks = blocks.new; moves = moves.new } } ≡ solved file.now allowance (record { marks = marks.old; blocks = blocks.old; moves = moves.old }) }
 {
-    if marks.len() < Game::MAX_STATES {
-        return Verdict::Refused(1);
+    if marks.len() < Game::MAX_STATES
+        || blocks.len() < Game::MAX_STATES
+        || moves.len() < Game::MAX_STATES
+    {
+        return Err(Refusal::ShortRow);
     }
-    if blocks.len() < Game::MAX_STATES {
-        return Verdict::Refused(1);
-    }
-    if moves.len() < Game::MAX_STATES {
-        return Verdict::Refused(1);
-    }
-    let number = first_refusal(file);
-    if number != 0 {
-        return Verdict::Refused(number);
-    }
-    solve_game(file, allowance, marks, blocks, moves)
+    first_refusal(file)?;
+    Ok(solve_game(file, allowance, marks, blocks, moves))
 }

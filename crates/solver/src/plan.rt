@@ -17,32 +17,23 @@ use game::Game;
 pub const NONE: u16 = 65535;
 
 // A move that the plan may show: one who hunts goes to an earlier pass, one who flees stays outside.
+#[tactic(auto, unfolding(crate::specs::Work::good_move))]
 fn is_good(chase: bool, own: u16, next: u16) -> bool
     ensures { result ≡ good_move chase own next }
 {
     if chase {
-        if next == 0 {
-            return false;
-        }
-        return next < own;
+        next != 0 && next < own
+    } else {
+        own == 0 && next == 0
     }
-    if own != 0 {
-        return false;
-    }
-    next == 0
 }
 
 // The lower of the best move so far and this one, where this one is to be taken.
+#[tactic(auto, unfolding(crate::specs::Work::lower_of))]
 fn better(best: u16, to: u16, mine: bool, good: bool) -> u16
     ensures { result ≡ lower_of best to (mine && good) }
 {
-    if !mine {
-        return best;
-    }
-    if !good {
-        return best;
-    }
-    if to < best { to } else { best }
+    if mine && good { best.min(to) } else { best }
 }
 
 // For each state of the side its lowest-numbered good move, or none.
@@ -59,8 +50,7 @@ fn advice_row(
     ensures { Cells max_states result (lowest_good side chase (λ s. get_or turn.now s 0) (λ k. get_or from.now k 0) (λ k. get_or to.now k 0) (λ s. get_or row.now s 0) m) }
 {
     let mut out = [NONE; Game::MAX_STATES];
-    let mut k: usize = 0;
-    while k < m {
+    for k in 0..m {
         let f = from[k] as usize;
         let next = to[k];
         let t = next as usize;
@@ -70,7 +60,6 @@ fn advice_row(
             turn[f] == side,
             is_good(chase, row[f], row[t]),
         );
-        k += 1;
     }
     out
 }

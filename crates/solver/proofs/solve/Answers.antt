@@ -1,25 +1,28 @@
 -- `solve` meets its contract.
-use mathlib.Core.Path.{sym, ◌∙◌}
+use mathlib.Core.Path.{◌≡◌, sym}
 use borrow.Author.Rules.{rules}
+use Rattle.std.specs.Prelude.{Err}
 use Rattle.solver.proofs.HandingBack.{short_marks, short_blocks, short_moves, long-rows, refused-row, refused-file, handed}
+use Rattle.solver.proofs.solve.Goals.{then-marks-lt-MAX_STATES-via-then-marks-lt-MAX_STATES, then-marks-lt-MAX_STATES-via-else-marks-lt-MAX_STATES+then-blocks-lt-MAX_STATES, then-marks-lt-MAX_STATES-via-else-marks-lt-MAX_STATES+else-blocks-lt-MAX_STATES+then-moves-lt-MAX_STATES}
 use Rattle.solver.proofs.solve.Goals as goal
 
 pub returns-then-marks-lt-MAX_STATES : goal.returns-then-marks-lt-MAX_STATES
-returns-then-marks-lt-MAX_STATES c = refused-row _ _ _ (short_marks _ c.if-marks-lt-MAX_STATES.true)
+returns-then-marks-lt-MAX_STATES c = refused-row _ _ _ (elim c.then-marks-lt-MAX_STATES.branch [
+  | then-marks-lt-MAX_STATES-via-then-marks-lt-MAX_STATES w ↦ short_marks _ w.if-marks-lt-MAX_STATES.true
+  | then-marks-lt-MAX_STATES-via-else-marks-lt-MAX_STATES+then-blocks-lt-MAX_STATES w ↦ short_blocks _ w.if-blocks-lt-MAX_STATES.true
+  | then-marks-lt-MAX_STATES-via-else-marks-lt-MAX_STATES+else-blocks-lt-MAX_STATES+then-moves-lt-MAX_STATES w ↦ short_moves _ w.if-moves-lt-MAX_STATES.true
+])
 
-pub returns-then-blocks-lt-MAX_STATES : goal.returns-then-blocks-lt-MAX_STATES
-returns-then-blocks-lt-MAX_STATES c = refused-row _ _ _ (short_blocks _ c.if-blocks-lt-MAX_STATES.true)
-
-pub returns-then-moves-lt-MAX_STATES : goal.returns-then-moves-lt-MAX_STATES
-returns-then-moves-lt-MAX_STATES c = refused-row _ _ _ (short_moves _ c.if-moves-lt-MAX_STATES.true)
-
-pub returns-then-number-ne0 : goal.returns-then-number-ne0
-returns-then-number-ne0 c = refused-file _ _ _ (long-rows _ c.if-marks-lt-MAX_STATES.false c.if-blocks-lt-MAX_STATES.false c.if-moves-lt-MAX_STATES.false) _ c.first_refusal-number.ensures c.if-number-ne0.true
+pub returns-in_err-first_refusal : goal.returns-in_err-first_refusal
+returns-in_err-first_refusal c =
+    let given : c.from_residual.result ≡ Err c.in_err-first_refusal.field-0.0 = search rules in
+    let long = long-rows _ c.if-marks-lt-MAX_STATES.false c.if-blocks-lt-MAX_STATES.false c.if-moves-lt-MAX_STATES.false in
+    rw given (refused-file _ _ _ long _ c.in_err-first_refusal.ensures)
 
 pub solve_game-requires : goal.solve_game-requires
-solve_game-requires c = record { accepted = sym c.first_refusal-number.ensures ∙ c.if-number-ne0.false; room = search rules }
+solve_game-requires c = record { accepted = sym c.in_ok-first_refusal.ensures; room = search rules }
 
 pub returns : goal.returns
 returns c =
     handed _ _ _ (long-rows _ c.if-marks-lt-MAX_STATES.false c.if-blocks-lt-MAX_STATES.false c.if-moves-lt-MAX_STATES.false)
-    (sym c.first_refusal-number.ensures ∙ c.if-number-ne0.false) c.solve_game.ensures
+    (sym c.in_ok-first_refusal.ensures) c.solve_game.ensures

@@ -1,7 +1,7 @@
 -- `lowest_start` meets its contract.
 use mathlib.Core.Path.{◌≡◌}
 use mathlib.Core.Bool.{false, ◌&&◌}
-use Prim.Native.Nat.{◌-◌, ◌≤◌}
+use Prim.Native.Nat.{◌≤◌}
 use lib.ListN.{get_or}
 use lib.Dec.{leb}
 use Rattle.arena.specs.Sets.{some}
@@ -11,6 +11,3 @@ use Rattle.solver.proofs.written.lowest_start.Given as goal
 abbrev pub invariant-loop-s : goal.invariant-loop-s
 invariant-loop-s l =
     (l.s ≤ l.n) × (some l.s (λ t. marked 1 (get_or l.starts t 0) && leb l.wanted (get_or l.marks t 0)) ≡ false)
-
-abbrev pub decreases-loop-s : goal.decreases-loop-s
-decreases-loop-s l = l.n - l.s
