@@ -3,17 +3,14 @@ use Rattle.rows.proofs.Present.{lent, few-states}
 use Rattle.outcome.proofs.Course.{lowered_anew, numbered_anew}
 use Rattle.outcome.proofs.last_lower.Goals as goal
 
-pub returns-then-made-eq0 : goal.returns-then-made-eq0
-returns-then-made-eq0 c = λ f. f.kept c.if-made-eq0.true
-
 pub copy_row-requires : goal.copy_row-requires
-copy_row-requires c = (let f = c.requires.finishing in (few-states f.present, f.present.prey_is.long, c.requires.room.5))
+copy_row-requires c = (let f = c.requires.finishing in (few-states f.present, f.present.prey_is.long, c.requires.room.2))
 
 pub grow_anew-requires : goal.grow_anew-requires
-grow_anew-requires c = (let f = c.requires.finishing in let l = c.requires.room in record { lent = (f.game, f.side, lent f.present); linked = (f.present.chains, l.0, l.1, l.2, l.3, l.4, c.copy_row.ensures.long, l.6) })
+grow_anew-requires c = (let f = c.requires.finishing in let l = c.requires.room in record { lent = (f.game, f.side, lent f.present); linked = (f.present.chains, l.0, l.1, c.copy_row.ensures.long) })
 
-pub returns : goal.returns
-returns c =
+pub returns-then-made-gt0 : goal.returns-then-made-gt0
+returns-then-made-gt0 c =
     λ f.
     let copied = c.copy_row.ensures in
     let done = c.grow_anew.ensures in
