@@ -1,4 +1,4 @@
-pub mod Prey
+pub mod PreyStates
 pub mod FirstMoves
 pub mod Searching
 pub mod RowSets

@@ -1,6 +1,6 @@
 -- The search for a border block: what is known of a member, of a block, and when the search ends.
 use mathlib.Core.Path.{◌≡◌, refl, sym, ap, ◌∙◌}
-use mathlib.Core.Bool.{Bool, true, false, not, ◌&&◌, cond, true≢false}
+use mathlib.Core.Bool.{Bool, true, false, not, ◌&&◌, ◌||◌, cond, true≢false}
 use mathlib.Core.List.{List}
 use mathlib.Core.Logic.{⊎_elim}
 use Prim.Native.Nat.{ℕ, zero, suc, ◌+◌, ◌≤◌, ◌<◌, zero-le}
@@ -10,25 +10,28 @@ use native.Mathlib.Omega.{arith}
 use lib.ListN.{get_or}
 use lib.Dec.{T, eqb}
 use borrow.Author.Tests.{eq-eqb, ne_eqb, eqb-true}
-use Rattle.arena.specs.Sets.{Set, some, bit}
+use Rattle.arena.specs.Sets.{Set, some, every}
 use Rattle.arena.specs.Arena.{forced}
 use Rattle.arena.proofs.Tests.{is_true, holds, and_l, and_r, not-not}
 use Rattle.arena.proofs.Sets.{lt_suc_cases}
-use Rattle.arena.proofs.Loops.{le_or_lt, some_found, some-done, some-none}
+use Rattle.arena.proofs.Loops.{le_or_lt, some_found, some-done, some-none, some_more, every_more}
 use Rattle.arena.proofs.Choices.{first-not, second_not, both}
 use Rattle.arena.proofs.Least.{least_found}
-use Rattle.game.specs.Game.{block_no, block_at, from_at}
+use Rattle.game.specs.Game.{block_no, turn_at, block_at, from_at, to_at}
 use Rattle.game.specs.Published.{side_of, arena_of}
 use Rattle.game.specs.declared.Game.{Game}
-use Rattle.game.proofs.Rows.{bit-one, bit_not}
 use Rattle.game.proofs.Ranged.{accepted-ranged}
 use Rattle.blocks.specs.Blocks.{meets}
 use Rattle.growth.specs.Stamp.{is_in}
 use Rattle.chains.specs.Lent.{cell_at, Linked}
+use Rattle.chains.specs.declared.lent.Board.{Board}
+use Rattle.chains.specs.declared.lent.Members.{Members}
 use Rattle.chains.proofs.Chains.{last-le, last_is, last_none}
-use Rattle.growth.proofs.Seen.{seen, seen_none, seen_more, seen_same, seen_all}
+use Rattle.growth.specs.declared.Growth.{Growth}
+use Rattle.growth.proofs.Seen.{leads, keeps, seen, seen_none, seen_same, seen_all}
 use Rattle.rounds.specs.Border.{bordering, border_answer}
 use Rattle.rounds.specs.Search.{first_move, Search}
+use Rattle.rounds.specs.Grouped.{SearchOn}
 use Rattle.std.specs.Prelude.{Some, None}
 use Rattle.rounds.proofs.FirstMoves.{before_first, between_first}
 
@@ -69,6 +72,16 @@ module _ {n : ℕ} {block last before : List ℕ} (chains : Linked n n block las
 pub members_less : {n : ℕ} {block last before : List ℕ} → Linked n n block last before → (s : ℕ) → s < n → get_or before s 0 ≤ s
 members_less {n} {block} chains s l = rw (chains.befores.cell s l) (last-le (cell_at block) s (get_or block s 0))
 
+-- what the first k moves tell of s, and what move k of s itself adds to it
+seen_step : (g : Game) (side : ℕ) (X : Set) (k s : ℕ) → from_at g k ≡ s
+    → cond (eqb (turn_at g s) side) (seen g side X k s || X (to_at g k)) (seen g side X k s && X (to_at g k)) ≡ seen g side X (k + 1) s
+unfolding seen
+seen_step g side X k s e = rw (some_more, every_more, eq-eqb _ _ e) (go (eqb (turn_at g s) side) (some k (leads g X s)) (every k (keeps g X s)) (X (to_at g k)))
+  where
+    go : (own a b x : Bool) → cond own (cond own a b || x) (cond own a b && x) ≡ cond own (a || x) (b && x)
+    go true a b x = refl
+    go false a b x = refl
+
 module _ {g : Game} {side n m : ℕ} {turn first to block last before lower hit : List ℕ} (q : Search g side n m turn first to block last before lower hit) where
   -- ## Where the numbers lie
 
@@ -90,8 +103,8 @@ module _ {g : Game} {side n m : ℕ} {turn first to block last before lower hit 
 
   module _ (s at : ℕ) (l : s < n) (e : at ≡ suc s) where
     -- what the first k moves tell of s
-    abbrev pub Told : ℕ → ℕ → Type 0
-    Told k known = known ≡ bit (seen g side (is_in lower) k s)
+    abbrev pub Told : ℕ → Bool → Type 0
+    Told k known = known ≡ seen g side (is_in lower) k s
 
     -- moves that do not leave s tell nothing
     skip : (j k : ℕ) → j ≤ k → ((i : ℕ) → j ≤ i → i < k → from_at g i ≡ s → ⊥) → seen g side (is_in lower) j s ≡ seen g side (is_in lower) k s
@@ -106,30 +119,23 @@ module _ {g : Game} {side n m : ℕ} {turn first to block last before lower hit 
     ends = rw (q.moves_is, e) (q.first_is.cell (suc s) (omega arith))
 
     -- none of its own moves yet
-    pub told_none : {known : ℕ} → known ≡ bit (not (eqb (get_or turn s 0) side)) → Told (get_or first s 0) known
-    told_none z = z ∙ ap (λ (v : ℕ). bit (not (eqb v side))) (q.turn_is.cell s l) ∙ ap bit (seen_none g side (is_in lower) s
-        ∙ skip 0 (get_or first s 0) zero-le (λ i _ b. before_first g q.accepted s i (rw begins at b)))
+    pub told_none : Told (get_or first s 0) (not (eqb (get_or turn s 0) side))
+    told_none = ap (λ (v : ℕ). not (eqb v side)) (q.turn_is.cell s l) ∙ seen_none g side (is_in lower) s
+        ∙ skip 0 (get_or first s 0) zero-le (λ i _ b. before_first g q.accepted s i (rw begins at b))
 
     -- one move more
-    pub told_more : (k : ℕ) {known next : ℕ} → Told k known → get_or first s 0 ≤ k → k < get_or first at 0
-        → next ≡ cond (eqb (get_or turn s 0) side) (cond (is_in lower (get_or to k 0)) 1 known) (cond (is_in lower (get_or to k 0)) known 0) → Told (k + 1) next
+    pub told_more : (k : ℕ) {known next : Bool} → Told k known → get_or first s 0 ≤ k → k < get_or first at 0
+        → next ≡ cond (eqb (get_or turn s 0) side) (known || is_in lower (get_or to k 0)) (known && is_in lower (get_or to k 0)) → Told (k + 1) next
     told_more k {known} z low high w =
         let own = between_first g q.accepted s k (omega (arith, q.states_is)) (rw begins at low) (rw ends at high) in
         let few = first-low at (omega arith) in
-        rw (w, q.turn_is.cell s l, q.to_is.cell k (omega arith)) (seen_more g side (is_in lower) k s own known z)
+        rw (w, q.turn_is.cell s l, q.to_is.cell k (omega arith), z) (seen_step g side (is_in lower) k s own)
 
-    -- all its moves
-    told_all : (k : ℕ) {known : ℕ} → Told k known → get_or first at 0 ≤ k → k ≤ m → known ≡ bit (forced (arena_of g) (side_of side) (is_in lower) s)
-    told_all k z low high = z ∙ ap bit (skip k g.moves (omega (arith, q.moves_is))
+    -- all its moves: whether it is in the forced-step set
+    pub told_all : (k : ℕ) {known : Bool} → Told k known → get_or first at 0 ≤ k → k ≤ m → known ≡ forced (arena_of g) (side_of side) (is_in lower) s
+    told_all k z low high = z ∙ skip k g.moves (omega (arith, q.moves_is))
         (λ i a b. last_none (from_at g) g.moves s i (omega (arith, ends)) b)
-        ∙ seen_all g (accepted-ranged q.accepted) side q.known (is_in lower) s (omega (arith, q.states_is)))
-
-    -- it is in the forced-step set, or it is not
-    pub told_in : (k : ℕ) {known : ℕ} → Told k known → get_or first at 0 ≤ k → k ≤ m → known ≡ 1 → forced (arena_of g) (side_of side) (is_in lower) s ≡ true
-    told_in k z low high is = bit-one (forced (arena_of g) (side_of side) (is_in lower) s) _ (told_all k z low high) is
-
-    pub told_out : (k : ℕ) {known : ℕ} → Told k known → get_or first at 0 ≤ k → k ≤ m → (known ≡ 1 → ⊥) → forced (arena_of g) (side_of side) (is_in lower) s ≡ false
-    told_out k z low high ne = bit_not (forced (arena_of g) (side_of side) (is_in lower) s) _ (told_all k z low high) ne
+        ∙ seen_all g (accepted-ranged q.accepted) side q.known (is_in lower) s (omega (arith, q.states_is))
 
   -- ## A block
 
@@ -186,9 +192,9 @@ module _ {g : Game} {side n m : ℕ} {turn first to block last before lower hit 
       border-member s m w f = by_members ∙ some_found g.states crossing s (omega (arith, q.states_is)) (both _ _ (eq-eqb _ _ (sym (q.block_is.cell s m) ∙ w ∙ sym own_number)) f)
 
 -- no game that the rows are of has state t in the side's forced-step set of the lower row
-abbrev pub Outside : ℕ → ℕ → ℕ → List ℕ → List ℕ → List ℕ → List ℕ → List ℕ → List ℕ → List ℕ → List ℕ → ℕ → Type 0
-Outside side n m turn first to block last before lower hit t =
-    (g : Game) → Search g side n m turn first to block last before lower hit → forced (arena_of g) (side_of side) (is_in lower) t ≡ false
+abbrev pub Outside : Board → List ℕ → Members → Growth → List ℕ → ℕ → Type 0
+Outside board block members growth lower t =
+    (g : Game) → SearchOn g board block members growth lower → forced (arena_of g) (side_of board.side) (is_in lower) t ≡ false
 
 -- ## The answer
 

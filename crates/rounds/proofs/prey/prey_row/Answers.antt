@@ -9,8 +9,8 @@ use Rattle.game.specs.Rows.{blank, zeros}
 use Rattle.game.specs.Game.{marked}
 use Rattle.game.proofs.Rows.{fill_none, fill_store, zeros-length}
 use Rattle.game.proofs.Small.{sweep}
-use Rattle.rounds.proofs.Prey.{prey_is}
-use Rattle.rounds.proofs.prey_row.Goals as goal
+use Rattle.rounds.proofs.PreyStates.{prey_is}
+use Rattle.rounds.proofs.prey.prey_row.Goals as goal
 
 pub loop-s-init : goal.loop-s-init
 unfolding blank

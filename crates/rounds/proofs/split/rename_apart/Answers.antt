@@ -7,7 +7,7 @@ use lib.Dec.{eqb}
 use Rattle.game.proofs.Rows.{fill_none, fill_done}
 use Rattle.chains.proofs.Filling.{places, filled, change_more}
 use Rattle.rounds.specs.Renamed.{enough}
-use Rattle.rounds.proofs.rename_apart.Goals as goal
+use Rattle.rounds.proofs.split.rename_apart.Goals as goal
 
 pub loop-s-init : goal.loop-s-init
 loop-s-init c = (search places, fill_none _ _, refl)

@@ -4,7 +4,7 @@ use native.Mathlib.Numerals.{add-one}
 use native.Mathlib.Omega.{arith}
 use lib.ListN.{length-set}
 use Rattle.rounds.proofs.FirstMoves.{first-none, first_more, nexts}
-use Rattle.rounds.proofs.first_moves.Goals as goal
+use Rattle.rounds.proofs.border.first_moves.Goals as goal
 
 pub loop-k-init : goal.loop-k-init
 loop-k-init c = (search nexts, first-none _ (rw add-one at c.clear.ensures), refl)
