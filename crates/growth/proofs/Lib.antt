@@ -7,5 +7,6 @@ pub mod Moving
 pub mod Ripening
 pub mod Walking
 pub mod Passing
+pub mod Starting
 pub mod Says
 pub mod Members

@@ -83,9 +83,9 @@ module _ {w : Net} (sound : Sound w) (f : ℕ → ℕ) {pass end q : ℕ} {have 
     pass_over = rw add-one (holds_cong was.work.stamped (λ s l. rw (ripe_is s, two) refl))
 
     -- the next pass begins
-    pub pass_next : end < tail → Passing w f (pass + 1) tail q have hit row queue tail
+    next : end < tail → Passing w f (pass + 1) tail q have hit row queue tail
     unfolding stamp_from
-    pass_next more = record {
+    next more = record {
       work = record {
         counts = was.work.counts;
         hit_is = was.work.hit_is;
@@ -97,6 +97,9 @@ module _ {w : Net} (sound : Sound w) (f : ℕ → ℕ) {pass end q : ℕ} {have 
       steps = omega (arith, was.steps);
       known = λ c l. was.work.listed.all c l ∙ ap (λ (x : ℕ). not (eqb x 0)) (pass_over.cell c l);
     }
+
+    pub pass_next : end < tail → Passing w f (pass + 1) tail end have hit row queue tail
+    pass_next more = rw here at next more
 
     -- no state has entered in this pass: the row of all passes
     pub pass_last : end ≡ tail → Holds w.states row (pass_of w f w.states)
@@ -163,10 +166,7 @@ pub record Within (w : Net) (pass end q tail : ℕ) : Type 0 where
   pub number_short : Fits w16 (pass + 2)
   pub number_some : 1 ≤ pass + 2
   pub in_queue : q < end → q < tail
-  pub next_fits : q < end → Fits w64 (q + 1)
-  pub next_less : q < end → end - (q + 1) < end - q
   pub all_in : tail ≤ end → end ≡ tail
-  pub pass_fits : Fits w64 (pass + 1)
   pub pass_less : end < tail → w.states - tail < w.states - end
 
 module _ {w : Net} (sound : Sound w) {pass end q : ℕ} {have hit row queue : List ℕ} {tail : ℕ} where
@@ -181,10 +181,7 @@ module _ {w : Net} (sound : Sound w) {pass end q : ℕ} {have hit row queue : Li
         number_short = omega arith;
         number_some = omega arith;
         in_queue = λ l. omega arith;
-        next_fits = λ l. omega arith;
-        next_less = λ l. omega arith;
         all_in = λ l. omega arith;
-        pass_fits = omega arith;
         pass_less = λ l. omega arith;
       }
 

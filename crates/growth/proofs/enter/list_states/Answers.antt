@@ -7,8 +7,8 @@ use borrow.Author.Tests.{eq-eqb, ne_eqb}
 use lib.ListN.{length, length-set}
 use Rattle.chains.proofs.Filling.{places}
 use Rattle.growth.proofs.Listing.{listed-none, listed_more, listed_same}
-use Rattle.growth.proofs.list_states.Goals as goal
-use Rattle.growth.proofs.list_states.Goals.{then-row-s-ne0, else-row-s-ne0}
+use Rattle.growth.proofs.enter.list_states.Goals as goal
+use Rattle.growth.proofs.enter.list_states.Goals.{then-row-s-ne0, else-row-s-ne0}
 
 pub loop-s-init : goal.loop-s-init
 loop-s-init c = (search places, search places, listed-none _ _, refl)

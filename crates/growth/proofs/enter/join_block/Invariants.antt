@@ -1,0 +1,16 @@
+-- `join_block` meets its contract: the members from the present one on have joined.
+use mathlib.Core.Path.{◌≡◌}
+use lib.ListN.{length}
+use Rattle.growth.proofs.Queue.{Joining}
+use Rattle.growth.proofs.enter.join_block.Given as goal
+
+abbrev pub invariant-loop-at : goal.invariant-loop-at
+invariant-loop-at l =
+    Joining l.n l.block l.b l.number l.initial.row l.initial.growth.queue.now l.initial.growth.tail l.row l.growth.queue.now l.growth.tail l.at
+    × (length l.row ≡ length l.initial.row)
+    × (length l.growth.queue.now ≡ length l.initial.growth.queue.now)
+    × (l.growth.have ≡ l.initial.growth.have)
+    × (l.growth.hit ≡ l.initial.growth.hit)
+
+abbrev pub decreases-loop-at : goal.decreases-loop-at
+decreases-loop-at l = l.at

@@ -1,0 +1,79 @@
+// The passes over the queue, and the walk over the moves into each of its states.
+ghost use Rattle.std.specs.Prelude.{ℕ, ◌+◌, ◌≤◌, ◌<◌};
+ghost use Rattle.growth.specs.Stamp.{pass_at};
+ghost use Rattle.chains.specs.Lent.{Holds};
+ghost use Rattle.chains.specs.Grouped.{Chained};
+ghost use Rattle.growth.specs.Net.{Sound, pass_of};
+ghost use Rattle.growth.specs.Queue.{Alike};
+ghost use Rattle.growth.specs.Grouped.{net_of, GrownBy};
+ghost use Rattle.growth.specs.Steps.{Chains, HandledBy, PassingBy};
+
+use crate::Growth;
+use crate::enter::join_block;
+use crate::ripe::enough;
+use chains::lent::{Members, Moves};
+
+// Looks at the moves into the state at place q of the queue.
+fn walk(
+    moves: &Moves<'_>,
+    whole: bool,
+    q: usize,
+    number: u16,
+    block: &[u16],
+    members: &Members<'_>,
+    growth: &mut Growth<'_>,
+    row: &mut [u16],
+)
+    requires { Sound (net_of moves.now whole block.now members.now) × Chained moves.now × Chains moves.now.states block.now members.now × (q < growth.old.tail) × (1 ≤ number) × HandledBy (net_of moves.now whole block.now members.now) (pass_at row.old) number q growth.old.queue.now growth.old row.old }
+    ensures { HandledBy (net_of moves.now whole block.now members.now) (pass_at row.old) number (q + 1) growth.old.queue.now growth.new row.new × (growth.old.tail ≤ growth.new.tail) × Alike growth.old.tail growth.new.queue.now growth.old.queue.now }
+{
+    let c = growth.queue[q] as usize;
+    let mut at = moves.last[c] as usize;
+    while at > 0 {
+        let e = at - 1;
+        let f = moves.from[e] as usize;
+        let more = growth.have[f] + 1;
+        growth.have[f] = more;
+        if more == moves.need[f] {
+            let b = block[f] as usize;
+            let met = growth.hit[b] + 1;
+            growth.hit[b] = met;
+            if met == enough(whole, members.size[b]) {
+                join_block(moves.states, b, number, block, members, growth, row);
+            }
+        }
+        at = moves.before[e] as usize;
+    }
+}
+
+// The passes over the queue from place `first` on, of which those before `entered` had entered before, until a pass adds
+// nothing.
+pub fn run_passes(
+    moves: &Moves<'_>,
+    whole: bool,
+    first: usize,
+    entered: usize,
+    block: &[u16],
+    members: &Members<'_>,
+    growth: &mut Growth<'_>,
+    row: &mut [u16],
+)
+    requires { Sound (net_of moves.now whole block.now members.now) × Chained moves.now × Chains moves.now.states block.now members.now × ((f : ℕ → ℕ) × PassingBy (net_of moves.now whole block.now members.now) f 0 entered first growth.old row.old) }
+    ensures { GrownBy (net_of moves.now whole block.now members.now) growth.new row.new × ((f : ℕ → ℕ) → PassingBy (net_of moves.now whole block.now members.now) f 0 entered first growth.old row.old → Holds moves.now.states row.new (pass_of (net_of moves.now whole block.now members.now) f moves.now.states)) }
+{
+    let mut start = first;
+    let mut end = entered;
+    let mut pass: usize = 0;
+    loop {
+        let number = (pass + 2) as u16;
+        for q in start..end {
+            walk(moves, whole, q, number, block, members, growth, row);
+        }
+        if end >= growth.tail {
+            return;
+        }
+        start = end;
+        end = growth.tail;
+        pass += 1;
+    }
+}

@@ -1,0 +1,56 @@
+// When a block is ripe: all its members have as many moves into the set as they need, or one has.
+ghost use Rattle.std.specs.Prelude.{◌≡◌, cond, ◌&&◌, ℕ, ◌≤◌, length, get_or, leb};
+ghost use Rattle.game.specs.Limits.{max_states};
+ghost use Rattle.chains.specs.Lent.{Holds, Keys};
+ghost use Rattle.chains.specs.Grouped.{MembersOf};
+ghost use Rattle.growth.specs.Net.{ripe_by};
+ghost use Rattle.growth.specs.Steps.{ListedIn, HitsBy, JoinedBy};
+
+use crate::Growth;
+use crate::enter::join_block;
+use chains::lent::Members;
+
+// How many members of each block have the moves that they need.
+pub fn count_hits(n: usize, block: &[u16], need: &[u16], growth: &mut Growth<'_>)
+    requires { (n ≤ max_states) × Keys n n block.now × (n ≤ length need.now) × (n ≤ length growth.old.have.now) × Holds n growth.old.hit.now (λ _. 0) }
+    ensures { HitsBy n block.now need.now growth.old growth.new }
+{
+    for s in 0..n {
+        if growth.have[s] >= need[s] {
+            growth.hit[block[s] as usize] += 1;
+        }
+    }
+}
+
+// How many members of a block must have what they need: all, or one.
+pub fn enough(whole: bool, size: u16) -> u16
+    ensures { result ≡ cond whole size 1 }
+{
+    if whole { size } else { 1 }
+}
+
+// Enough members of a block have what they need, and one at least.
+fn is_ripe(whole: bool, size: u16, hit: u16) -> bool
+    ensures { result ≡ (leb 1 hit && leb (cond whole size 1) hit) }
+{
+    1 <= hit && enough(whole, size) <= hit
+}
+
+// Every ripe block joins with the number 2.
+pub fn join_ripe(
+    n: usize,
+    whole: bool,
+    block: &[u16],
+    members: &Members<'_>,
+    growth: &mut Growth<'_>,
+    row: &mut [u16],
+)
+    requires { (n ≤ max_states) × Keys n n block.now × MembersOf n block.now members.now × (n ≤ length growth.old.hit.now) × (n ≤ length row.old) × ListedIn n growth.old row.old }
+    ensures { JoinedBy n (λ s. ripe_by whole members.now.size.now growth.old.hit.now (get_or block.now s 0)) 2 growth.old row.old growth.new row.new }
+{
+    for b in 0..n {
+        if is_ripe(whole, members.size[b], growth.hit[b]) {
+            join_block(n, b, 2, block, members, growth, row);
+        }
+    }
+}
