@@ -5,6 +5,7 @@ pub mod lent;
 
 ghost use Rattle.std.specs.Prelude.{◌≡◌, cond, ℕ, ◌≤◌, ◌<◌, length, get_or, eqb};
 ghost use Rattle.game.specs.Limits.{max_states, max_moves};
+ghost use Rattle.game.specs.Rows.{fill};
 ghost use Rattle.chains.specs.Lent.{Holds, Keys, many_of, last_below, Linked, rechained};
 ghost use Rattle.chains.specs.Grouped.{Roomy, MembersOf};
 
@@ -98,4 +99,13 @@ pub fn need_row(n: usize, turn: &[u8], side: u8, need: &mut [u16])
     for s in 0..n {
         need[s] = needed(turn[s] == side, need[s]);
     }
+}
+
+// Writes the first n places of another row over those of this one. The rest keep their content.
+pub fn copy_row(n: usize, values: &[u16], out: &mut [u16])
+    requires { (n ≤ length values.now) × (n ≤ length out.old) }
+    ensures filled { out.new ≡ fill n (λ s. get_or values.now s 0) out.old }
+    ensures held { Holds n out.new (λ s. get_or values.now s 0) }
+{
+    out[..n].copy_from_slice(&values[..n]);
 }

@@ -10,6 +10,7 @@ ghost use Rattle.rows.specs.RoundRows.{Saying, Numbered};
 ghost use Rattle.rows.specs.Grouped.{PresentOn, LoweredOn, FinishingOn, FinalOn};
 
 use chains::lent::{Board, Members};
+use chains::copy_row;
 use game::Game;
 use growth::Growth;
 use play::{last_round, play_rounds};
@@ -40,7 +41,7 @@ fn last_lower(
     ensures { (f : FinishingOn board.now made block.now members.old growth.old lower.old) → LoweredOn f.game board.now.moves block.now members.new growth.new lower.new × Numbered f.game board.now.moves.states lower.new }
 {
     if made > 0 {
-        sets::copy_row(board.moves.states, board.prey, lower);
+        copy_row(board.moves.states, board.prey, lower);
         sets::grow_anew(&board.moves, true, block, members, growth, lower);
     }
 }
@@ -93,7 +94,7 @@ pub fn run_rounds(board: &Board<'_>, allowance: u16, block: &mut [u16]) -> Ran
         names: &mut names,
         made: 0,
     };
-    sets::copy_row(board.moves.states, board.prey, &mut lower);
+    copy_row(board.moves.states, board.prey, &mut lower);
     sets::grow_anew(
         &board.moves,
         true,

@@ -7,18 +7,14 @@ ghost use Rattle.runs.specs.First.{Bisecting};
 ghost use Rattle.rows.specs.Grouped.{RetracingOn};
 
 use crate::sets;
+use chains::copy_row;
 use chains::lent::Board;
 use game::Game;
 use runs::log::SplitLog;
 
 // The round after the splits of the log is lost, and none of the first `clear` rounds is. The first round that is lost, and its
 // blocks in place of those of the last round.
-pub fn first_lost(
-    board: &Board<'_>,
-    clear: usize,
-    log: &SplitLog<'_>,
-    block: &mut [u16],
-) -> usize
+pub fn first_lost(board: &Board<'_>, clear: usize, log: &SplitLog<'_>, block: &mut [u16]) -> usize
     requires { RetracingOn board.now clear log.now block.old }
     ensures { ((t : RetracingOn board.now clear log.now block.old) → Bisecting t.game result result × Holds board.now.moves.states block.new (block_at (round lowest_first result t.game))) × (result ≤ log.now.made) × (log.now.made ≡ 0 → block.new ≡ block.old) }
 {
@@ -28,12 +24,12 @@ pub fn first_lost(
     let mut high = log.made;
     while low < high {
         let middle = low + (high - low) / 2;
-        sets::copy_row(n, block, &mut earlier);
+        copy_row(n, block, &mut earlier);
         log.rewind(n, high, middle, &mut earlier);
         if sets::may_have_way(board, &earlier) {
             low = middle + 1;
         } else {
-            sets::copy_row(n, &earlier, block);
+            copy_row(n, &earlier, block);
             high = middle;
         }
     }

@@ -11,23 +11,13 @@ ghost use Rattle.rows.specs.RoundRows.{Saying};
 ghost use Rattle.rows.specs.Grouped.{PresentBy, UnderwayOn};
 
 use chains::lent::{Board, Members, Moves};
-use chains::{clear, gather};
+use chains::{clear, copy_row, gather};
 use game::Game;
 use growth::{Growth, grow, list_states};
 use runs::starts;
 
 // Numbers by state.
 pub type Row = [u16; Game::MAX_STATES];
-
-// Copies the first n places.
-pub fn copy_row(n: usize, values: &[u16], out: &mut [u16])
-    requires { (n ≤ max_states) × (n ≤ length values.now) × (n ≤ length out.old) }
-    ensures { Holds n out.new (λ s. get_or values.now s 0) }
-{
-    for s in 0..n {
-        out[s] = values[s];
-    }
-}
 
 // Links the members of the present blocks, and grows the row's set from nothing.
 pub fn grow_anew(

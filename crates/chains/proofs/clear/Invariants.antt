@@ -1,5 +1,5 @@
 -- `clear` meets its contract: the places passed hold 0.
-use Prim.Native.Nat.{◌-◌, ◌≤◌}
+use Prim.Native.Nat.{◌≤◌}
 use mathlib.Core.Path.{◌≡◌}
 use lib.ListN.{length}
 use Rattle.chains.specs.Lent.{Holds}

@@ -1,5 +1,5 @@
 -- `count_keys` meets its contract: the keys passed are counted.
-use Prim.Native.Nat.{◌-◌, ◌≤◌}
+use Prim.Native.Nat.{◌≤◌}
 use mathlib.Core.Path.{◌≡◌}
 use lib.ListN.{length}
 use Rattle.chains.specs.Lent.{Holds, many_of}

@@ -1,5 +1,5 @@
 -- `link` meets its contract: the places passed are linked.
-use Prim.Native.Nat.{◌-◌, ◌≤◌}
+use Prim.Native.Nat.{◌≤◌}
 use mathlib.Core.Path.{◌≡◌}
 use lib.ListN.{length, get_or}
 use Rattle.chains.specs.Lent.{Holds, last_below}

@@ -1,5 +1,5 @@
 -- `need_row` meets its contract: the places passed say what is needed, the others still how many moves there are.
-use Prim.Native.Nat.{◌-◌, ◌≤◌}
+use Prim.Native.Nat.{◌≤◌}
 use mathlib.Core.Path.{◌≡◌}
 use mathlib.Core.Bool.{cond}
 use lib.ListN.{length, get_or}

@@ -1,5 +1,5 @@
 -- `relink` meets its contract: the members passed are linked.
-use Prim.Native.Nat.{◌-◌, ◌≤◌}
+use Prim.Native.Nat.{◌≤◌}
 use mathlib.Core.Path.{◌≡◌}
 use lib.ListN.{length}
 use Rattle.chains.proofs.Parting.{Chained}

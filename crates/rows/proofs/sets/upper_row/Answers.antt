@@ -17,8 +17,8 @@ pub grow-requires : goal.grow-requires
 grow-requires c =
     (let u = c.requires in
     let few = few-states u.present in
-    let copied = counted_copy _ _ _ _ u.lowered.grown.counted c.copy_row.ensures c.copy_row-2.ensures c.copy_row-3.ensures in
+    let copied = counted_copy _ _ _ _ u.lowered.grown.counted c.copy_row.ensures.held c.copy_row-2.ensures.held c.copy_row-3.ensures.held in
     record { lent = (u.game, u.side, lent u.present); linked = (u.present.chains, u.lowered.gathered, few, copied) })
 
 pub returns : goal.returns
-returns c = λ u. upper-grown u.present u.lowered.lower_in c.copy_row-2.ensures (c.grow.ensures.stamped u.game u.side (lent u.present))
+returns c = λ u. upper-grown u.present u.lowered.lower_in c.copy_row-2.ensures.held (c.grow.ensures.stamped u.game u.side (lent u.present))
