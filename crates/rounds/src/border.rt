@@ -56,6 +56,7 @@ pub fn border_block(
         for b in 0..board.moves.states {
             if is_open(block[b], b as u16, lower[b], growth.hit[b]) {
                 let mut at = members.last[b] as usize;
+                // No range counts these: each member tells the one before it, down to 0.
                 while at > 0 {
                     let s = at - 1;
                     let own = board.turn[s] == board.side;

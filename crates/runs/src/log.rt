@@ -1,11 +1,10 @@
 // The blocks of an earlier round, had again from a later one by undoing its splits from a log.
-ghost use Rattle.std.specs.Prelude.{◌≡◌, cond, ℕ, ◌+◌, ◌≤◌, ◌<◌, length, get_or, set, eqb};
+ghost use Rattle.std.specs.Prelude.{◌≡◌, cond, ◌+◌, ◌≤◌, ◌<◌, length, get_or, set, eqb};
 ghost use Rattle.game.specs.Limits.{max_states};
 ghost use Rattle.game.specs.Game.{block_at};
 ghost use Rattle.game.specs.declared.Game.{Game};
 ghost use Rattle.chains.specs.Lent.{Holds};
 ghost use Rattle.runs.specs.Run.{lowest_first, round};
-ghost use Rattle.runs.specs.Log.{Log};
 ghost use Rattle.runs.specs.Grouped.{Logged};
 
 // The block before a split: its parent for one that the split named, and itself for any other.
@@ -25,24 +24,8 @@ fn undo_split(n: usize, parent: u16, name: u16, block: &mut [u16])
     }
 }
 
-// The blocks of round `earlier` from those of round `later`: the splits between them are undone, the last one first.
-pub fn earlier_blocks(
-    n: usize,
-    later: usize,
-    earlier: usize,
-    parents: &[u16],
-    names: &[u16],
-    block: &mut [u16],
-)
-    requires { ((g : Game) × (made : ℕ) × Log g n made parents.now names.now × (later ≤ made) × (earlier ≤ later) × Holds n block.old (block_at (round lowest_first later g))) × (n ≤ max_states) }
-    ensures { (g : Game) (made : ℕ) → Log g n made parents.now names.now → later ≤ made → Holds n block.old (block_at (round lowest_first later g)) → Holds n block.new (block_at (round lowest_first earlier g)) }
-{
-    for k in (earlier..later).rev() {
-        undo_split(n, parents[k], names[k], block);
-    }
-}
-
-// The splits of a run, and how many there are: split i was of block parents[i], and the part without that state got the name names[i].
+// The splits of a run, and how many there are: split i was of block parents[i], and the part without that state got the name
+// names[i]. The rows are lent, since the programs keep no heap.
 #[derive(Drop)]
 pub struct SplitLog<'a> {
     pub parents: &'a mut [u16],
@@ -68,6 +51,8 @@ impl SplitLog<'_> {
         requires { ((g : Game) × Logged g n self.now × (later ≤ self.now.made) × (earlier ≤ later) × Holds n block.old (block_at (round lowest_first later g))) × (n ≤ max_states) }
         ensures { (g : Game) → Logged g n self.now → later ≤ self.now.made → Holds n block.old (block_at (round lowest_first later g)) → Holds n block.new (block_at (round lowest_first earlier g)) }
     {
-        earlier_blocks(n, later, earlier, self.parents, self.names, block);
+        for k in (earlier..later).rev() {
+            undo_split(n, self.parents[k], self.names[k], block);
+        }
     }
 }
