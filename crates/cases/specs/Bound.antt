@@ -1,5 +1,5 @@
 -- 01, 'What is handed back': a plan needs as many as states minus 1 moves.
-use Rattle.std.specs.Prelude.{ℕ, zero, suc, ◌-◌, ◌<◌, ◌≡◌, List, get_or, T}
+use Rattle.std.specs.Prelude.{ℕ, zero, suc, ◌-◌, ◌<◌, ◌≡◌, List, get_or, T, Ok}
 use Rattle.arena.specs.Arena.{one}
 use Rattle.arena.specs.Play.{Play}
 use Rattle.arena.specs.Plan.{Obeys}
@@ -11,7 +11,7 @@ use Rattle.solver.specs.declared.Verdict.TheVariants.{Yes}
 
 -- a play that follows the plan shown for the file f from the start that YES names, and comes to the target in no fewer than states minus 1 moves
 pub record NeedsAll (f : List ℕ) (a : ℕ) (lent : Rows) (start splits : ℕ) (p : ℕ → ℕ) : Type 0 where
-  pub says_yes : (solved f a lent).answer ≡ Yes (state_no start) splits
+  pub says_yes : (solved f a lent).answer ≡ Ok (Yes (state_no start) splits)
   pub starts : p 0 ≡ start
   pub play : Play (arena_of (game_of f)) p
   pub follows : Obeys (arena_of (game_of f)) one (λ s. get_or (solved f a lent).rows.moves s 0) p

@@ -1,4 +1,5 @@
 pub mod Files
+pub mod Numbered
 pub mod Table
 pub mod Bound
 pub mod Exchanges

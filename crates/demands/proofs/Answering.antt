@@ -6,6 +6,7 @@ use mathlib.Core.Logic.{inl, inr}
 use mathlib.Core.List.{List}
 use lib.ListN.{drop}
 use lib.Dec.{T, not_T, eqb, eqb→eq}
+use Rattle.std.specs.Prelude.{Ok}
 use Rattle.arena.specs.Sets.{Set, least}
 use Rattle.arena.specs.Arena.{Side, one, two}
 use Rattle.arena.specs.Win.{Goal}
@@ -33,7 +34,7 @@ use Rattle.demands.proofs.Verdicts.{sure-marked, mark-means, yes_means, no_means
 use Rattle.demands.proofs.PlanRows.{aim, ground, won_states, plan-wins}
 
 -- the splits of a verdict are those it was said with
-splits-said : (w : Word) (g : Game) (n : ℕ) → splits_of (said (decision_of w g) n) ≡ n
+splits-said : (w : Word) (g : Game) (n : ℕ) → splits_of (Ok (said (decision_of w g) n)) ≡ n
 splits-said YES g n = refl
 splits-said NO g n = refl
 splits-said OPEN g n = refl
@@ -81,7 +82,7 @@ module _ (g : Game) (ok : AcceptedGame g) (a : ℕ) (lent : Rows) where
       ∙ least_cong g.states _ _ (λ s l. ap₂ ◌&&◌ (ap (λ (X : Set). X s) (run-initials lowest_first a g))
       (sym (ap (λ m. eqb m 2) (shown (mark end) lent.marks s l) ∙ sure-marked end s)))
 
-  verdict-means : (w : Word) → word end ≡ w → Says g a rows (said (decision_of w end) ran.splits)
+  verdict-means : (w : Word) → word end ≡ w → Says g a rows (Ok (said (decision_of w end) ran.splits))
   unfolding arena_of has_move rule
   verdict-means YES e =
       let h = says end YES e in
@@ -115,7 +116,7 @@ module _ (g : Game) (ok : AcceptedGame g) (a : ℕ) (lent : Rows) where
       let m = mark-means end how.accepted s (rw (run-states lowest_first a g) l) in
       record { named = m.named; sure = λ e. back (λ h. Wins h s) (m.sure e); never = λ e. back (λ h. Loses h s) (m.never e) }
 
-  pub answered : Answered g a lent (record { answer = verdict_of ran; rows = rows })
+  pub answered : Answered g a lent (record { answer = Ok (verdict_of ran); rows = rows })
   unfolding block_count
   answered =
       let splits = splits-said (word end) end ran.splits in

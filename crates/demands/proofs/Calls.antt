@@ -5,15 +5,16 @@ use mathlib.Core.List.{List}
 use native.Mathlib.Omega.{arith}
 use borrow.Author.Tests.{leb-true}
 use lib.ListN.{length, take}
-use Rattle.file.specs.Fault.{refused_or}
+use Rattle.std.specs.Prelude.{Result, Ok, Err}
+use Rattle.game.specs.declared.Game.{Game}
+use Rattle.file.specs.declared.refusal.Refusal.{Refusal}
+use Rattle.file.specs.Fault.{answered}
 use Rattle.file.specs.Layout.{Bytes}
 use Rattle.file.specs.Refusals.{refusal}
 use Rattle.file.proofs.Laws.{then_zero, unless-zero}
 use Rattle.decoding.specs.Decode.{decoded}
-use Rattle.decoding.specs.declared.Decoded.{Decoded}
 use Rattle.decoding.proofs.Accepted.{decoded-accepted}
 use Rattle.exchange.specs.Exchange.{Outcome as Exchange, exchange_fault, exchanged, exchanged_file}
-use Rattle.exchange.specs.declared.Exchanged.TheVariants.{Written, Refused}
 use Rattle.exchange.proofs.Ends.{written}
 use Rattle.solver.specs.Solve.{Rows, Outcome, solved}
 use Rattle.demands.specs.Files.{FileOfGame}
@@ -26,19 +27,19 @@ use Rattle.demands.proofs.Files.{accepted-file, exchanged-file}
 pub solve_promise : (f : List ℕ) (a : ℕ) (lent : Rows) (out : Outcome) → out ≡ solved f a lent → SolvePromise f a lent out
 solve_promise f a lent out e = rw e (record { demand1 = demand1 f a lent; demand2 = demand2 f a lent; means = means f a lent })
 
-pub decode_promise : (f : List ℕ) → Bytes f → (out : Decoded) → out ≡ decoded f → DecodePromise f out
+pub decode_promise : (f : List ℕ) → Bytes f → (out : Result Game Refusal) → out ≡ decoded f → DecodePromise f out
 decode_promise f small out e = record {
   demand1 = rw e (demand1_of_decoding f);
-  game = λ q. let taken = decoded-accepted f out e q in subst (FileOfGame f) (sym taken.1) (accepted-file f small taken.0);
+  game = λ g q. let taken = decoded-accepted f g (sym q ∙ e) in subst (FileOfGame f) (sym taken.1) (accepted-file f small taken.0);
 }
 
 -- a written file was accepted, and there was room for it
-module _ (f out : List ℕ) (n : ℕ) (q : (exchanged f out).answer ≡ Written n) where
+module _ (f out : List ℕ) (n : ℕ) (q : (exchanged f out).answer ≡ Ok n) where
   no_fault : exchange_fault f (length out) ≡ 0
   unfolding exchanged
   no_fault = go (exchange_fault f (length out)) q
     where
-      go : (e : ℕ) → refused_or Refused e (Written (length (exchanged_file f))) ≡ Written n → e ≡ 0
+      go : (e : ℕ) → answered e (length (exchanged_file f)) ≡ Ok n → e ≡ 0
       go zero h = refl
       go (suc e) h = let z : ◌≡◌ {A = ℕ} 0 1 = cc in absurd (omega arith)
 
@@ -50,8 +51,15 @@ module _ (f out : List ℕ) (n : ℕ) (q : (exchanged f out).answer ≡ Written 
   unfolding exchange_fault
   room = leb-true (length f) (length out) (unless-zero _ 1 tt (then_zero _ _ no_fault).1)
 
-  written-length : n ≡ length f
+  pub written-length : n ≡ length f
   written-length = let e = sym q ∙ (written f out taken room).0 in cc
+
+  pub written_fits : n ≤ length out
+  written_fits = omega (arith, written-length, room)
+
+-- an accepted file is written where there is room
+pub no_refusal : (f out : List ℕ) (r : Refusal) → (exchanged f out).answer ≡ Err r → refusal f ≡ 0 → length f ≤ length out → ⊥
+no_refusal f out r q taken room = let e = sym q ∙ (written f out taken room).0 in let z : ◌≡◌ {A = ℕ} 0 1 = cc in omega arith
 
 pub exchange_promise : (f : List ℕ) → Bytes f → (lent : List ℕ) (out : Exchange) → out ≡ exchanged f lent → ExchangePromise f lent out
 exchange_promise f small lent out e = rw e (record {

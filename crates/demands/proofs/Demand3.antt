@@ -3,12 +3,14 @@ use Prim.Native.Nat.{ℕ, ◌<◌}
 use mathlib.Core.Path.{◌≡◌, refl, sym, ap, ◌∙◌, subst}
 use mathlib.Core.List.{List}
 use lib.Dec.{T}
+use Rattle.std.specs.Prelude.{Result, Ok, Err}
 use Rattle.arena.specs.Sets.{Set}
 use Rattle.game.specs.Rows.{fill}
 use Rattle.game.specs.Game.{state_no, block_at}
 use Rattle.game.specs.Accepted.{AcceptedGame}
 use Rattle.game.specs.declared.Game.{Game}
 use Rattle.game.proofs.Rows.{fill_at}
+use Rattle.file.specs.declared.refusal.Refusal.{Refusal}
 use Rattle.file.specs.Fault.{◌then◌}
 use Rattle.file.specs.Refusals.{refusal}
 use Rattle.decoding.specs.Decode.{game_of}
@@ -22,7 +24,7 @@ use Rattle.runs.proofs.Runs.{run-states, run-initials, round-accepted, run-ended
 use Rattle.solver.specs.Rules.{mark, planned}
 use Rattle.solver.specs.Solve.{decision_of, said, run_of, verdict_of, Rows, written_rows, short_row, solve_fault, Outcome, solved}
 use Rattle.solver.specs.declared.Verdict.{Verdict}
-use Rattle.solver.specs.declared.Verdict.TheVariants.{Yes, No, Open, Refused}
+use Rattle.solver.specs.declared.Verdict.TheVariants.{Yes, No, Open}
 use Rattle.demands.specs.Meaning.{place, splits_of}
 use Rattle.demands.specs.Trades.{SingleStart, trade_mark, trade_run, trade_verdict, SameRound}
 use Rattle.demands.specs.Demand3.{SidesExchanged, Demand3}
@@ -61,25 +63,25 @@ module _ (g : Game) (ok : AcceptedGame g) where
     }
 
     -- what is said of it is what is said of the game, traded
-    said_traded : (n : ℕ) → said (decision_of (word (exchanged_game g)) (exchanged_game g)) n ≡ trade_verdict start (said (decision_of (word g) g) n)
-    said_traded n = ap (λ (w : Word). said (decision_of w (exchanged_game g)) n) (word-exchanged g ok start single) ∙ go (word g) refl
+    said_traded : (n : ℕ) → Ok (said (decision_of (word (exchanged_game g)) (exchanged_game g)) n) ≡ trade_verdict start (Ok (said (decision_of (word g) g) n))
+    said_traded n = ap (λ (w : Word). Ok (said (decision_of w (exchanged_game g)) n)) (word-exchanged g ok start single) ∙ go (word g) refl
       where
         named : word g ≡ NO → named_start (exchanged_game g) ≡ start
         named e =
             let h = says (exchanged_game g) YES (word-exchanged g ok start single ∙ ap trade_word e) in
             (exchanged_single g ok start single).only (named_start (exchanged_game g)) h.0 h.1
 
-        go : (w : Word) → word g ≡ w → said (decision_of (trade_word w) (exchanged_game g)) n ≡ trade_verdict start (said (decision_of w g) n)
+        go : (w : Word) → word g ≡ w → Ok (said (decision_of (trade_word w) (exchanged_game g)) n) ≡ trade_verdict start (Ok (said (decision_of w g) n))
         go YES e = refl
-        go NO e = ap (λ s. Yes (state_no s) n) (named e)
+        go NO e = ap (λ s. Ok (Yes (state_no s) n)) (named e)
         go OPEN e = refl
 
 -- a traded verdict has as many splits
-traded_splits : (start : ℕ) (v : Verdict) → splits_of (trade_verdict start v) ≡ splits_of v
-traded_splits start (Yes s n) = refl
-traded_splits start (No n) = refl
-traded_splits start (Open n) = refl
-traded_splits start (Refused e) = refl
+traded_splits : (start : ℕ) (v : Result Verdict Refusal) → splits_of (trade_verdict start v) ≡ splits_of v
+traded_splits start (Ok (Yes s n)) = refl
+traded_splits start (Ok (No n)) = refl
+traded_splits start (Ok (Open n)) = refl
+traded_splits start (Err r) = refl
 
 -- ## Two files
 
@@ -89,7 +91,7 @@ module _ (f h : List ℕ) (taken : refusal f ≡ 0) (same : game_of h ≡ exchan
 
   -- what a call hands back, from rows that are long enough
   abbrev handed : List ℕ → Rows → Outcome
-  handed f lent = record { answer = verdict_of (run_of f a); rows = written_rows (run_of f a).last lent }
+  handed f lent = record { answer = Ok (verdict_of (run_of f a)); rows = written_rows (run_of f a).last lent }
 
   each_round : (k : ℕ) → SameRound (round lowest_first k (game_of f)) (round lowest_first k (game_of h))
   each_round k =
@@ -103,8 +105,8 @@ module _ (f h : List ℕ) (taken : refusal f ≡ 0) (same : game_of h ≡ exchan
     last_ok : AcceptedGame (run_of f a).last
     last_ok = (run-ended lowest_first lowest_borders a (game_of f) ok).accepted
 
-    verdict_traded : verdict_of (run_of h a) ≡ trade_verdict start (verdict_of (run_of f a))
-    verdict_traded = ap verdict_of same-run ∙ said_traded (run_of f a).last last_ok start (run_single (game_of f) ok start single a) (run_of f a).splits
+    verdict_traded : Ok (verdict_of (run_of h a)) ≡ trade_verdict start (Ok (verdict_of (run_of f a)))
+    verdict_traded = ap (λ (r : Run). Ok (verdict_of r)) same-run ∙ said_traded (run_of f a).last last_ok start (run_single (game_of f) ok start single a) (run_of f a).splits
 
     -- places of rows that hold F of the one last game and F' of the other
     both_shown : (F : Game → ℕ → ℕ) (G : ℕ → ℕ) (row row' : List ℕ) (s : ℕ) → s < (game_of f).states
@@ -134,7 +136,7 @@ module _ (f h : List ℕ) (taken : refusal f ≡ 0) (same : game_of h ≡ exchan
     exchanged = subst (SidesExchanged (game_of f)) (sym same) (sides_exchanged (game_of f) ok);
     winners = λ s l. rw same (wins-exchanged (game_of f) ok s l);
     same_rounds = each_round;
-    same-splits = λ start single. (same-run start single, ap splits_of (verdict_traded start single) ∙ traded_splits start (verdict_of (run_of f a)));
+    same-splits = λ start single. (same-run start single, ap splits_of (verdict_traded start single) ∙ traded_splits start (Ok (verdict_of (run_of f a))));
     same_blocks = λ start single s l. both_shown start single block_at (λ b. b) lent.blocks lent'.blocks s l refl;
     same-plan = λ start single s l. both_shown start single (λ g. planned (word g) g) (λ m. m) lent.moves lent'.moves s l (moves-same start single s l);
     verdict_traded = verdict_traded;

@@ -1,10 +1,9 @@
 -- What is promised of each public call, and of an exchange and two calls of the solver: the contracts of this crate's functions.
-use Rattle.std.specs.Prelude.{ℕ, ◌≤◌, ◌≡◌, List, length, take, drop}
+use Rattle.std.specs.Prelude.{ℕ, ◌≤◌, ◌≡◌, List, length, take, drop, Result, Ok}
+use Rattle.game.specs.declared.Game.{Game}
+use Rattle.file.specs.declared.refusal.Refusal.{Refusal}
 use Rattle.file.specs.Refusals.{refusal}
-use Rattle.decoding.specs.declared.Decoded.{Decoded}
-use Rattle.decoding.specs.declared.Answer.TheVariants as decode
 use Rattle.exchange.specs.Exchange.{Outcome as Exchange, exchanged_file}
-use Rattle.exchange.specs.declared.Exchanged.TheVariants.{Written}
 use Rattle.solver.specs.Solve.{Rows, short_row, solve_fault, Outcome}
 use Rattle.hvoyanur_c.specs.Pack.{PackedOutcome, packed_outcome, PackedWriting, packed_writing}
 use Rattle.demands.specs.Meaning.{Means}
@@ -20,16 +19,16 @@ pub record SolvePromise (f : List ℕ) (a : ℕ) (lent : Rows) (out : Outcome) :
   pub means : Means f a lent out
 
 -- demand 1 of a call of `decode`; the game of an accepted file is the one whose file it is
-pub record DecodePromise (f : List ℕ) (out : Decoded) : Type 0 where
+pub record DecodePromise (f : List ℕ) (out : Result Game Refusal) : Type 0 where
   pub demand1 : Demand1OfDecoding f out
-  pub game : out.answer ≡ decode.Accepted → FileOfGame f out.game
+  pub game : (g : Game) → out ≡ Ok g → FileOfGame f g
 
 -- demand 1 of a call of `exchange`; 01, 'What is handed back': it writes the file of the exchanged game, the output after that keeps its
 -- content, the length is equal, and done twice it gives the first bytes
 pub record ExchangePromise (f : List ℕ) (lent : List ℕ) (out : Exchange) : Type 0 where
   pub demand1 : Demand1OfExchange f lent out
-  pub written : (n : ℕ) → out.answer ≡ Written n → (n ≡ length f) × (take n out.output ≡ exchanged_file f) × (drop n out.output ≡ drop n lent)
-  pub exchanged : (n : ℕ) → out.answer ≡ Written n → ExchangedFile f
+  pub written : (n : ℕ) → out.answer ≡ Ok n → (n ≡ length f) × (take n out.output ≡ exchanged_file f) × (drop n out.output ≡ drop n lent)
+  pub exchanged : (n : ℕ) → out.answer ≡ Ok n → ExchangedFile f
 
 -- demand 3 of a call of `exchange` that was lent `room` and left `output`, and of two calls of `solve`, of the file and of the bytes written
 abbrev pub ExchangedSolvePromise : List ℕ → ℕ → Rows → Outcome → List ℕ → List ℕ → Rows → Outcome → Type 0

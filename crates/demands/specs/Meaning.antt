@@ -1,15 +1,17 @@
 -- What an answer means, whole: the outcome of a call with the bytes f, the allowance a and three lent rows.
-use Rattle.std.specs.Prelude.{ℕ, suc, ◌+◌, ◌≤◌, ◌<◌, ◌≡◌, ◌&&◌, List, get_or, drop, T, eqb}
+use Rattle.std.specs.Prelude.{ℕ, suc, ◌+◌, ◌≤◌, ◌<◌, ◌≡◌, ◌&&◌, List, get_or, drop, T, eqb, Result, Ok, Err}
 use Rattle.arena.specs.Sets.{least}
 use Rattle.arena.specs.Plan.{no_move}
 use Rattle.game.specs.Game.{block_at, initials}
 use Rattle.game.specs.declared.Game.{Game}
+use Rattle.file.specs.declared.refusal.Refusal.{Refusal}
+use Rattle.file.specs.Number.{number}
 use Rattle.decoding.specs.Decode.{game_of}
 use Rattle.blocks.specs.Blocks.{block_count}
 use Rattle.runs.specs.Run.{lowest_first, round}
 use Rattle.solver.specs.Solve.{Rows, Outcome, solve_fault}
 use Rattle.solver.specs.declared.Verdict.{Verdict}
-use Rattle.solver.specs.declared.Verdict.TheVariants.{Yes, No, Open, Refused}
+use Rattle.solver.specs.declared.Verdict.TheVariants.{Yes, No, Open}
 use Rattle.demands.specs.Winners.{Wins, Loses, SomeStartWins, PlanOfYes, PlanOfNo}
 
 -- what stands at a place of a row
@@ -21,11 +23,11 @@ abbrev pub blocks_of : Game → ℕ
 blocks_of g = block_count g.states (block_at g)
 
 -- 01, 'What is handed back': the splits of each answer; a refusal has no count
-abbrev pub splits_of : Verdict → ℕ
-splits_of (Yes s n) = n
-splits_of (No n) = n
-splits_of (Open n) = n
-splits_of (Refused e) = 0
+abbrev pub splits_of : Result Verdict Refusal → ℕ
+splits_of (Ok (Yes s n)) = n
+splits_of (Ok (No n)) = n
+splits_of (Ok (Open n)) = n
+splits_of (Err r) = 0
 
 -- YES: side 1 wins from the named start, the lowest-numbered initial state that is marked sure, and the plan is how
 pub record SaysYes (g : Game) (rows : Rows) (named : ℕ) : Type 0 where
@@ -45,12 +47,12 @@ pub record SaysOpen (g : Game) (a splits : ℕ) (rows : Rows) : Type 0 where
   pub too_few : blocks_of g + a < g.states
   pub no_plan : (s : ℕ) → s < g.states → place rows.moves s ≡ no_move
 
--- what the verdict says; a game that is accepted is not refused
-abbrev pub Says : Game → ℕ → Rows → Verdict → Type 0
-Says g a rows (Yes named n) = SaysYes g rows named.0
-Says g a rows (No n) = SaysNo g rows
-Says g a rows (Open n) = SaysOpen g a n rows
-Says g a rows (Refused e) = ⊥
+-- what the answer says; a game that is accepted is not refused
+abbrev pub Says : Game → ℕ → Rows → Result Verdict Refusal → Type 0
+Says g a rows (Ok (Yes named n)) = SaysYes g rows named.0
+Says g a rows (Ok (No n)) = SaysNo g rows
+Says g a rows (Ok (Open n)) = SaysOpen g a n rows
+Says g a rows (Err r) = ⊥
 
 -- 0 never, 1 open, 2 sure: side 1 wins from a sure state, and side 2 keeps it from winning from a never state
 pub record Marked (g : Game) (s mark : ℕ) : Type 0 where
@@ -75,7 +77,7 @@ pub record Answered (g : Game) (a : ℕ) (lent : Rows) (out : Outcome) : Type 0 
       × (drop g.states out.rows.blocks ≡ drop g.states lent.blocks)
       × (drop g.states out.rows.moves ≡ drop g.states lent.moves)
 
--- the whole: a refusal is its number alone, that of the first condition met, and leaves the rows untouched
+-- the whole: a refusal is that of the first condition met, alone, and leaves the rows untouched
 pub record Means (f : List ℕ) (a : ℕ) (lent : Rows) (out : Outcome) : Type 0 where
-  pub refused : (e : ℕ) → solve_fault f lent ≡ suc e → out ≡ record { answer = Refused (suc e); rows = lent }
+  pub refused : (e : ℕ) → solve_fault f lent ≡ suc e → (r : Refusal) × (number r ≡ suc e) × (out ≡ record { answer = Err r; rows = lent })
   pub answered : solve_fault f lent ≡ 0 → Answered (game_of f) a lent out

@@ -6,18 +6,18 @@ ghost use Rattle.std.specs.Prelude.{◌≡◌, ◌≤◌, length, take};
 ghost use Rattle.solver.specs.Solve.{solved};
 ghost use Rattle.demands.specs.Calls.{SolvePromise, DecodePromise, ExchangePromise, ExchangedSolvePromise};
 
-use decoding::Decoded;
-use exchange::Exchanged;
+use file::Refusal;
+use game::Game;
 use solver::Verdict;
 
 pub mod again;
 pub mod c_calls;
 
-// The verdict of a file and that of the exchanged file.
+// The answers of two calls.
 #[derive(Clone, Copy)]
-pub struct BothVerdicts {
-    pub file: Verdict,
-    pub exchanged: Verdict,
+pub struct Twice<T> {
+    pub first: T,
+    pub second: T,
 }
 
 // Demands 1 and 2 of a call of `solve`, and what its answer means.
@@ -27,21 +27,21 @@ pub fn solve_as_promised(
     marks: &mut [u16],
     blocks: &mut [u16],
     moves: &mut [u16],
-) -> Verdict
+) -> Result<Verdict, Refusal>
     ensures { SolvePromise file.now allowance (record { marks = marks.old; blocks = blocks.old; moves = moves.old }) (record { answer = result; rows = record { marks = marks.new; blocks = blocks.new; moves = moves.new } }) }
 {
     solver::solve(file, allowance, marks, blocks, moves)
 }
 
 // Demand 1 of a call of `decode`, and the game of an accepted file.
-pub fn decode_as_promised(file: &[u8]) -> Decoded
+pub fn decode_as_promised(file: &[u8]) -> Result<Game, Refusal>
     ensures { DecodePromise file.now result }
 {
     decoding::decode(file)
 }
 
 // Demand 1 of a call of `exchange`, and what it writes.
-pub fn exchange_as_promised(file: &[u8], out: &mut [u8]) -> Exchanged
+pub fn exchange_as_promised(file: &[u8], out: &mut [u8]) -> Result<usize, Refusal>
     ensures { ExchangePromise file.now out.old (record { answer = result; output = out.new }) }
 {
     exchange::exchange(file, out)
@@ -55,14 +55,14 @@ fn solve_written(
     marks: &mut [u16],
     blocks: &mut [u16],
     moves: &mut [u16],
-) -> Verdict
+) -> Result<Verdict, Refusal>
     requires { count ≤ length out.now }
     ensures { record { answer = result; rows = record { marks = marks.new; blocks = blocks.new; moves = moves.new } } ≡ solved (take count out.now) allowance (record { marks = marks.old; blocks = blocks.old; moves = moves.old }) }
 {
     solver::solve(&out[..count], allowance, marks, blocks, moves)
 }
 
-// Demand 3 of an exchange and two calls of `solve`.
+// Demand 3 of an exchange and two calls of `solve`, of the file first and then of the exchanged one.
 pub fn solve_exchanged_as_promised(
     file: &[u8],
     out: &mut [u8],
@@ -73,28 +73,20 @@ pub fn solve_exchanged_as_promised(
     exchanged_marks: &mut [u16],
     exchanged_blocks: &mut [u16],
     exchanged_moves: &mut [u16],
-) -> BothVerdicts
-    ensures { ExchangedSolvePromise file.now allowance (record { marks = marks.old; blocks = blocks.old; moves = moves.old }) (record { answer = result.file; rows = record { marks = marks.new; blocks = blocks.new; moves = moves.new } }) out.old out.new (record { marks = exchanged_marks.old; blocks = exchanged_blocks.old; moves = exchanged_moves.old }) (record { answer = result.exchanged; rows = record { marks = exchanged_marks.new; blocks = exchanged_blocks.new; moves = exchanged_moves.new } }) }
+) -> Twice<Result<Verdict, Refusal>>
+    ensures { ExchangedSolvePromise file.now allowance (record { marks = marks.old; blocks = blocks.old; moves = moves.old }) (record { answer = result.first; rows = record { marks = marks.new; blocks = blocks.new; moves = moves.new } }) out.old out.new (record { marks = exchanged_marks.old; blocks = exchanged_blocks.old; moves = exchanged_moves.old }) (record { answer = result.second; rows = record { marks = exchanged_marks.new; blocks = exchanged_blocks.new; moves = exchanged_moves.new } }) }
 {
-    exchange::exchange(file, out);
-    let verdict = solver::solve(file, allowance, marks, blocks, moves);
-    let count = file.len();
-    if out.len() < count {
-        return BothVerdicts {
-            file: verdict,
-            exchanged: verdict,
-        };
-    }
-    let exchanged = solve_written(
-        out,
-        count,
-        allowance,
-        exchanged_marks,
-        exchanged_blocks,
-        exchanged_moves,
-    );
-    BothVerdicts {
-        file: verdict,
-        exchanged,
-    }
+    let first = solver::solve(file, allowance, marks, blocks, moves);
+    let second = match exchange::exchange(file, out) {
+        Ok(count) => solve_written(
+            out,
+            count,
+            allowance,
+            exchanged_marks,
+            exchanged_blocks,
+            exchanged_moves,
+        ),
+        Err(refusal) => Err(refusal),
+    };
+    Twice { first, second }
 }

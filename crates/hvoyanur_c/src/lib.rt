@@ -6,7 +6,7 @@ ghost use Rattle.solver.specs.Solve.{solved};
 ghost use Rattle.exchange.specs.Exchange.{exchanged};
 ghost use Rattle.hvoyanur_c.specs.Pack.{joined, packed, packed_outcome, packed_writing};
 
-use exchange::Exchanged;
+use file::Refusal;
 use solver::Verdict;
 
 // Stands where no start is named.
@@ -16,18 +16,18 @@ const NO_START: u16 = 65535;
 fn join(word: u8, named: u16, splits: u16) -> u64
     ensures { result ≡ joined word named splits }
 {
-    word as u64 * 4294967296 + named as u64 * 65536 + splits as u64
+    u64::from(word) * 4294967296 + u64::from(named) * 65536 + u64::from(splits)
 }
 
-// A verdict as one number.
-fn pack(verdict: Verdict) -> u64
-    ensures { result ≡ packed verdict }
+// An answer as one number.
+fn pack(answer: Result<Verdict, Refusal>) -> u64
+    ensures { result ≡ packed answer }
 {
-    match verdict {
-        Verdict::Yes(start, splits) => join(1, start.0, splits),
-        Verdict::No(splits) => join(2, NO_START, splits),
-        Verdict::Open(splits) => join(3, NO_START, splits),
-        Verdict::Refused(number) => join(0, number as u16, 0),
+    match answer {
+        Ok(Verdict::Yes(start, splits)) => join(1, start.0, splits),
+        Ok(Verdict::No(splits)) => join(2, NO_START, splits),
+        Ok(Verdict::Open(splits)) => join(3, NO_START, splits),
+        Err(refusal) => join(0, u16::from(refusal.number()), 0),
     }
 }
 
@@ -42,8 +42,7 @@ pub fn hvoyanur_solve(
 ) -> u64
     ensures { record { value = result; rows = record { marks = marks.new; blocks = blocks.new; moves = moves.new } } ≡ packed_outcome (solved file.now allowance (record { marks = marks.old; blocks = blocks.old; moves = moves.old })) }
 {
-    let verdict = solver::solve(file, allowance, marks, blocks, moves);
-    pack(verdict)
+    pack(solver::solve(file, allowance, marks, blocks, moves))
 }
 
 // Writes the file of the exchanged game into the first bytes of the output. Returns 2^32 + the length written, or the
@@ -51,9 +50,8 @@ pub fn hvoyanur_solve(
 pub fn hvoyanur_exchange(file: &[u8], out: &mut [u8]) -> u64
     ensures { record { value = result; output = out.new } ≡ packed_writing (exchanged file.now out.old) }
 {
-    let answer = exchange::exchange(file, out);
-    match answer {
-        Exchanged::Written(length) => 4294967296 + length as u64,
-        Exchanged::Refused(number) => number as u64,
+    match exchange::exchange(file, out) {
+        Ok(length) => 4294967296 + length as u64,
+        Err(refusal) => u64::from(refusal.number()),
     }
 }

@@ -2,15 +2,8 @@
 use mathlib.Core.Path.{ap}
 use native.Mathlib.Omega.{arith}
 use Rattle.exchange.specs.Exchange.{Outcome}
-use Rattle.hvoyanur_c.specs.Pack.{packed_writing}
 use Rattle.hvoyanur_c.proofs.Short.{written_short}
 use Rattle.hvoyanur_c.proofs.hvoyanur_exchange.Goals as goal
 
 pub overflow_add-result : goal.overflow_add-result
-overflow_add-result c = omega (arith, written_short _ _ _ (ap (λ (x : Outcome). x.answer) c.in-Written.ensures))
-
-pub returns-in-Written : goal.returns-in-Written
-returns-in-Written c = ap packed_writing c.in-Written.ensures
-
-pub returns-in-Refused : goal.returns-in-Refused
-returns-in-Refused c = ap packed_writing c.in-Refused.ensures
+overflow_add-result c = omega (arith, written_short _ _ _ (ap (λ (x : Outcome). x.answer) c.in-Ok.ensures))
