@@ -1,113 +1,78 @@
 // What is printed of a game file: the refusal, or the verdict and each state with its mark, its block and its move.
 #![tactic(auto)]
 
-ghost use Rattle.std.specs.Prelude.{◌≤◌, ◌<◌};
-ghost use Rattle.game.specs.Limits.{max_states};
+pub mod words;
 
+ghost use Rattle.std.specs.Prelude.{◌≡◌, ◌<◌, length};
+ghost use Rattle.file.specs.Layout.{states};
+
+use file::number_at;
 use game::Game;
-use solver::Verdict;
 use std::io;
 use std::io::Write;
+use words::{Mark, Move, VerdictLine};
 
-// No move.
-const NONE: u16 = 65535;
+/// What stands above the lines of the states.
+pub const HEADING: &str = "state mark block move";
 
-// `verdict start splits`, or `REFUSED number`; answers whether there is a verdict.
-fn first_line<W: Write>(out: &mut W, verdict: Verdict) -> io::Result<bool> {
-    match verdict {
-        Verdict::Yes(start, splits) => {
-            let named = start.0;
-            writeln!(out, "YES {named} {splits}")?;
-            Ok(true)
-        }
-        Verdict::No(splits) => {
-            writeln!(out, "NO - {splits}")?;
-            Ok(true)
-        }
-        Verdict::Open(splits) => {
-            writeln!(out, "OPEN - {splits}")?;
-            Ok(true)
-        }
-        Verdict::Refused(refusal) => {
-            writeln!(out, "REFUSED {refusal}")?;
-            Ok(false)
-        }
-    }
-}
-
-fn mark_word<W: Write>(out: &mut W, mark: u16) -> io::Result<()> {
-    if mark == 2 {
-        return write!(out, "sure");
-    }
-    if mark == 1 {
-        return write!(out, "open");
-    }
-    write!(out, "never")
-}
-
-fn move_word<W: Write>(out: &mut W, to: u16) -> io::Result<()> {
-    if to == NONE {
-        return write!(out, "-");
-    }
-    write!(out, "{to}")
-}
-
-// `state mark block move`
-fn state_line<W: Write>(out: &mut W, state: u16, mark: u16, block: u16, to: u16) -> io::Result<()> {
-    write!(out, "{state} ")?;
-    mark_word(out, mark)?;
-    write!(out, " {block} ")?;
-    move_word(out, to)?;
-    writeln!(out)
-}
-
-fn wide(byte: u8) -> usize
-    ensures { result < 256 }
-{
-    byte as usize
-}
-
-// The states of an accepted file, as its head says.
-fn state_count(file: &[u8]) -> usize
-    ensures { result ≤ max_states }
+/// The states of an accepted file, as its head says.
+pub fn state_count(file: &[u8]) -> usize
+    ensures { 5 < length file.now → result ≡ states file.now }
 {
     if file.len() < 6 {
         return 0;
     }
-    let n = wide(file[4]) + 256 * wide(file[5]);
-    if n > Game::MAX_STATES {
-        return Game::MAX_STATES;
-    }
-    n
+    usize::from(number_at(file, 4))
 }
 
-// A line for each state.
-fn state_lines<W: Write>(
-    out: &mut W,
-    n: usize,
+// What the solver says of the states, a place for each.
+#[derive(Clone, Copy)]
+struct Rows {
     marks: [u16; Game::MAX_STATES],
     blocks: [u16; Game::MAX_STATES],
     moves: [u16; Game::MAX_STATES],
-) -> io::Result<()>
-    requires { n ≤ max_states }
-{
-    let mut s: usize = 0;
-    while s < n {
-        state_line(out, s as u16, marks[s], blocks[s], moves[s])?;
-        s += 1;
-    }
-    Ok(())
 }
 
-// Solves the game of the file, and prints the refusal or the verdict and a line for each state.
-pub fn print_answer<W: Write>(out: &mut W, file: &[u8], allowance: u16) -> io::Result<()> {
-    let mut marks = [0u16; Game::MAX_STATES];
-    let mut blocks = [0u16; Game::MAX_STATES];
-    let mut moves = [0u16; Game::MAX_STATES];
-    let verdict = solver::solve(file, allowance, &mut marks, &mut blocks, &mut moves);
-    if first_line(out, verdict)? {
-        writeln!(out, "state mark block move")?;
-        state_lines(out, state_count(file), marks, blocks, moves)?;
+impl Rows {
+    fn empty() -> Rows {
+        Rows {
+            marks: [0; Game::MAX_STATES],
+            blocks: [0; Game::MAX_STATES],
+            moves: [0; Game::MAX_STATES],
+        }
     }
-    Ok(())
+
+    // A line for each of the first `count` states.
+    fn print<W: Write>(&self, out: &mut W, count: usize) -> io::Result<()> {
+        let places = self
+            .marks
+            .iter()
+            .zip(self.blocks.iter())
+            .zip(self.moves.iter());
+        for (state, ((mark, block), to)) in places.take(count).enumerate() {
+            let mark = Mark::try_from(*mark).unwrap_or(Mark::Never);
+            let to = Move::from(*to);
+            writeln!(out, "{state} {mark} {block} {to}")?;
+        }
+        Ok(())
+    }
+}
+
+/// Solves the game of the file, and prints the refusal or the verdict and a line for each state.
+pub fn print_answer<W: Write>(out: &mut W, file: &[u8], allowance: u16) -> io::Result<()> {
+    let mut rows = Rows::empty();
+    match solver::solve(
+        file,
+        allowance,
+        &mut rows.marks,
+        &mut rows.blocks,
+        &mut rows.moves,
+    ) {
+        Ok(verdict) => {
+            let verdict = VerdictLine(verdict);
+            writeln!(out, "{verdict}\n{HEADING}")?;
+            rows.print(out, state_count(file))
+        }
+        Err(refusal) => writeln!(out, "REFUSED {refusal}"),
+    }
 }

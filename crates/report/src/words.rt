@@ -1,0 +1,98 @@
+// The words of an answer: of a verdict, of a state's mark and of its move.
+ghost use Rattle.std.specs.Prelude.{◌≡◌, Some};
+ghost use Rattle.report.specs.Words.{NamesMark, mark_word, move_of, move_word, verdict_line};
+
+use game::StateNo;
+use solver::Verdict;
+use std::fmt;
+
+/// A verdict, as its line says it: the word, the start that it names, and how many splits there were.
+#[derive(Clone, Copy)]
+pub struct VerdictLine(pub Verdict);
+
+impl fmt::Display for VerdictLine {
+    ghost output = { λ line. Some (verdict_line line.0) };
+
+    fn fmt<W: fmt::Write>(&self, f: &mut fmt::Formatter<W>) -> fmt::Result {
+        match self.0 {
+            Verdict::Yes(start, splits) => {
+                let start = start.0;
+                write!(f, "YES {start} {splits}")
+            }
+            Verdict::No(splits) => write!(f, "NO - {splits}"),
+            Verdict::Open(splits) => write!(f, "OPEN - {splits}"),
+        }
+    }
+}
+
+/// Whether the hunting side has a state: never, open, or for sure.
+#[derive(Clone, Copy)]
+pub enum Mark {
+    Never,
+    Open,
+    Sure,
+}
+
+/// A number that stands for no mark.
+#[derive(Clone, Copy)]
+pub struct WrongMark(pub u16);
+
+impl TryFrom<u16> for Mark {
+    type Error = WrongMark;
+
+    ghost try_from_gives = { NamesMark };
+
+    fn try_from(number: u16) -> Result<Self, WrongMark> {
+        match number {
+            0 => Ok(Mark::Never),
+            1 => Ok(Mark::Open),
+            2 => Ok(Mark::Sure),
+            _ => Err(WrongMark(number)),
+        }
+    }
+}
+
+impl fmt::Display for Mark {
+    ghost output = { λ mark. Some (mark_word mark) };
+
+    fn fmt<W: fmt::Write>(&self, f: &mut fmt::Formatter<W>) -> fmt::Result {
+        f.write_str(match self {
+            Mark::Never => "never",
+            Mark::Open => "open",
+            Mark::Sure => "sure",
+        })
+    }
+}
+
+/// The state that a move leads to, or none where there is no move.
+#[derive(Clone, Copy)]
+pub struct Move(pub Option<StateNo>);
+
+// How the row of moves says that there is none.
+const NO_MOVE: u16 = 65535;
+
+impl From<u16> for Move {
+    ghost from_gives = { λ number to. to.0 ≡ move_of number };
+
+    fn from(number: u16) -> Move {
+        if number == NO_MOVE {
+            Move(None)
+        } else {
+            Move(Some(StateNo(number)))
+        }
+    }
+}
+
+impl fmt::Display for Move {
+    ghost output = { λ to. Some (move_word to.0) };
+
+    fn fmt<W: fmt::Write>(&self, f: &mut fmt::Formatter<W>) -> fmt::Result {
+        match self.0 {
+            None => f.write_str("-"),
+            Some(to) => {
+                let to = to.0;
+                write!(f, "{to}")
+            }
+        }
+    }
+}
