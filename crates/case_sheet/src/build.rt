@@ -1,68 +1,71 @@
 // Long files, which the sheet has no room for. Each state is a block of its own, turns alternate, the first state is initial and
 // the last one target; each state has an equal share of the moves, to 0, 1, 2 and so on.
-ghost use Rattle.std.specs.Prelude.{◌<◌};
+ghost use Rattle.std.specs.Prelude.{◌+◌, ◌^◌, ◌<◌};
 
 use crate::show;
-use input::large_buffer;
+use input::{FILE_ROOM, filled};
 use sheet_lines::fitting;
 use std::io;
 use std::io::Write;
 
 pub fn long_files<W: Write>(to: &mut W) -> io::Result<()> {
-    of_size(to, b"one state, one move", 1, 1)?;
-    of_size(to, b"512 states, 512 moves", 512, 512)?;
-    of_size(to, b"512 states, 511 moves", 512, 511)?;
-    of_size(to, b"513 states, 513 moves", 513, 513)?;
-    of_size(to, b"64 states, 4096 moves", 64, 4096)?;
-    of_size(to, b"241 states, 4097 moves", 241, 4097)?;
-    of_size(to, b"512 states, 4096 moves", 512, 4096)
+    of_size(to, "one state, one move", 1, 1)?;
+    of_size(to, "512 states, 512 moves", 512, 512)?;
+    of_size(to, "512 states, 511 moves", 512, 511)?;
+    of_size(to, "513 states, 513 moves", 513, 513)?;
+    of_size(to, "64 states, 4096 moves", 64, 4096)?;
+    of_size(to, "241 states, 4097 moves", 241, 4097)?;
+    of_size(to, "512 states, 4096 moves", 512, 4096)
 }
 
 // The largest file that is accepted has 36,874 bytes. Its last state stands at 4,098 and its last move at 36,866.
 pub fn largest_files<W: Write>(to: &mut W) -> io::Result<()> {
-    of_length(to, b"largest file cut by one byte", 36873)?;
-    of_length(to, b"largest file and one byte more", 36875)?;
-    with_number(to, b"largest file, wrong kind in the last move", 36868, 2)?;
-    with_number(to, b"largest file, turn 3 in the last state", 4102, 515)?;
-    with_number(to, b"largest file, block 512 in the last state", 4104, 512)?;
-    with_number(to, b"largest file, block 255 in the last state", 4104, 255)?;
-    with_number(to, b"largest file, block 510 in the last state", 4104, 510)?;
-    with_number(to, b"largest file, last move to 512", 36872, 512)?;
+    of_length(to, "largest file cut by one byte", 36873)?;
+    of_length(to, "largest file and one byte more", 36875)?;
+    with_number(to, "largest file, wrong kind in the last move", 36868, 2)?;
+    with_number(to, "largest file, turn 3 in the last state", 4102, 515)?;
+    with_number(to, "largest file, block 512 in the last state", 4104, 512)?;
+    with_number(to, "largest file, block 255 in the last state", 4104, 255)?;
+    with_number(to, "largest file, block 510 in the last state", 4104, 510)?;
+    with_number(to, "largest file, last move to 512", 36872, 512)?;
     with_number(
         to,
-        b"largest file, last move repeats the one before",
+        "largest file, last move repeats the one before",
         36872,
         6,
     )?;
-    with_number(to, b"largest file, last move to 511", 36872, 511)?;
-    with_number(to, b"largest file, no start", 14, 1)
+    with_number(to, "largest file, last move to 511", 36872, 511)?;
+    with_number(to, "largest file, no start", 14, 1)
 }
 
-fn of_size<W: Write>(to: &mut W, name: &[u8], states: u16, moves: u16) -> io::Result<()> {
-    let mut file = large_buffer();
+fn of_size<W: Write>(to: &mut W, name: &str, states: u16, moves: u16) -> io::Result<()> {
+    let mut file = filled::<u8, FILE_ROOM>(0);
     records(&mut file, states, moves);
-    let length = fitting(10 + 8 * (states as usize) + 8 * (moves as usize), &file);
-    to.write_all(name)?;
-    show::answers(to, &file[..length])
+    let length = fitting(10 + 8 * usize::from(states) + 8 * usize::from(moves), &file);
+    named(to, name, &file[..length])
 }
 
 // The largest file at another length: what comes after it is 0.
-fn of_length<W: Write>(to: &mut W, name: &[u8], size: usize) -> io::Result<()> {
-    let mut file = large_buffer();
+fn of_length<W: Write>(to: &mut W, name: &str, size: usize) -> io::Result<()> {
+    let mut file = filled::<u8, FILE_ROOM>(0);
     records(&mut file, 512, 4096);
     let length = fitting(size, &file);
-    to.write_all(name)?;
-    show::answers(to, &file[..length])
+    named(to, name, &file[..length])
 }
 
 // The largest file with another number in two of its bytes.
-fn with_number<W: Write>(to: &mut W, name: &[u8], at: u32, value: u16) -> io::Result<()> {
-    let mut file = large_buffer();
+fn with_number<W: Write>(to: &mut W, name: &str, at: u16, value: u16) -> io::Result<()> {
+    let mut file = filled::<u8, FILE_ROOM>(0);
     records(&mut file, 512, 4096);
-    store(&mut file, at, value);
+    store(&mut file, usize::from(at), value);
     let length = fitting(36874, &file);
-    to.write_all(name)?;
-    show::answers(to, &file[..length])
+    named(to, name, &file[..length])
+}
+
+// The whole line of a file.
+fn named<W: Write>(to: &mut W, name: &str, file: &[u8]) -> io::Result<()> {
+    write!(to, "{name}")?;
+    show::answers(to, file)
 }
 
 // Writes all records of a file.
@@ -77,32 +80,23 @@ fn records(file: &mut [u8], states: u16, moves: u16) {
 }
 
 fn state_records(file: &mut [u8], states: u16) {
-    let mut state = 0;
-    while state < states {
-        record(
-            file,
-            10 + 8 * (state as u32),
-            2,
-            turn_and_marks(state, states),
-            state,
-        );
-        state += 1;
+    for state in 0..states {
+        let own = u16::from_le_bytes([turn(state), marks(state, states)]);
+        record(file, 10 + 8 * usize::from(state), 2, own, state);
     }
 }
 
 fn move_records(file: &mut [u8], states: u16, moves: u16) {
     let each = share(moves, states);
-    let first = 10 + 8 * (states as u32);
-    let mut count = 0;
-    while count < moves {
+    let first = 10 + 8 * usize::from(states);
+    for count in 0..moves {
         record(
             file,
-            first + 8 * (count as u32),
+            first + 8 * usize::from(count),
             3,
             count / each,
             count % each,
         );
-        count += 1;
     }
 }
 
@@ -110,35 +104,27 @@ fn move_records(file: &mut [u8], states: u16, moves: u16) {
 fn share(moves: u16, states: u16) -> u16
     ensures { 0 < result }
 {
-    if states == 0 {
-        return 1;
-    }
-    let each = moves / states;
-    if each == 0 {
-        return 1;
-    }
-    each
+    moves.checked_div(states).unwrap_or(1).max(1)
 }
 
-// The turn, and 256 times the marks.
-fn turn_and_marks(state: u16, states: u16) -> u16 {
-    if states == 1 {
-        return 1 + 256 * 3;
-    }
-    if state == 0 {
-        return 1 + 256;
-    }
-    if state as u32 + 1 == states as u32 {
-        return 1 + state % 2 + 256 * 2;
-    }
-    1 + state % 2
+// The sides take turns.
+fn turn(state: u16) -> u8 {
+    if state % 2 == 0 { 1 } else { 2 }
+}
+
+// 1 for the first state, which is initial, and 2 for the last one, which is a target.
+fn marks(state: u16, states: u16) -> u8
+    requires { state < states }
+{
+    let initial = u8::from(state == 0);
+    let target = u8::from(state + 1 == states);
+    initial + 2 * target
 }
 
 // Writes a record of length 6: its length, its kind and four bytes more.
-fn record(file: &mut [u8], at: u32, kind: u16, third: u16, fourth: u16) {
-    if at > 1000000 {
-        return;
-    }
+fn record(file: &mut [u8], at: usize, kind: u16, third: u16, fourth: u16)
+    requires { at < 2 ^ 32 }
+{
     store(file, at, 6);
     store(file, at + 2, kind);
     store(file, at + 4, third);
@@ -146,11 +132,10 @@ fn record(file: &mut [u8], at: u32, kind: u16, third: u16, fourth: u16) {
 }
 
 // Writes a number into two bytes, the low one first, where there is room for it.
-fn store(file: &mut [u8], at: u32, value: u16) {
-    let low = at as usize;
-    let high = low + 1;
-    if high < file.len() {
-        file[low] = (value % 256) as u8;
-        file[high] = (value / 256) as u8;
+fn store(file: &mut [u8], at: usize, value: u16)
+    requires { at < 2 ^ 33 }
+{
+    if let Some(place) = file.get_mut(at..at + 2) {
+        place.copy_from_slice(&value.to_le_bytes());
     }
 }

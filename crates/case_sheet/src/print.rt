@@ -1,56 +1,45 @@
-// Refusals and bytes, as they are printed.
-ghost use Rattle.std.specs.Prelude.{◌<◌};
+// Bytes, as they are printed.
+use std::fmt;
 
-use std::io;
-use std::io::Write;
+// Up to 512 bytes are printed in full, two hexadecimal digits each, more by their sums.
+#[derive(Clone, Copy)]
+pub struct Bytes<'a>(pub &'a [u8]);
 
-// A refusal, as the printing program words it.
-pub fn refusal<W: Write>(to: &mut W, value: u8) -> io::Result<()> {
-    write!(to, "REFUSED {value}")
-}
-
-// Up to 512 bytes are printed in full, more by their sums.
-pub fn bytes<W: Write>(to: &mut W, row: &[u8]) -> io::Result<()> {
-    if row.len() <= 512 {
-        hexadecimal(to, row)
-    } else {
-        sums(to, row)
+impl<'a> fmt::Display for Bytes<'a> {
+    fn fmt<W: fmt::Write>(&self, f: &mut fmt::Formatter<W>) -> fmt::Result {
+        let row = self.0;
+        if row.len() > 512 {
+            let sums = Sums::of(row);
+            return write!(f, "{sums}");
+        }
+        for byte in row {
+            write!(f, "{byte:02x}")?;
+        }
+        Ok(())
     }
-}
-
-fn wide(byte: u8) -> u64
-    ensures { result < 256 }
-{
-    byte as u64
-}
-
-fn hexadecimal<W: Write>(to: &mut W, row: &[u8]) -> io::Result<()> {
-    let mut at = 0;
-    while at < row.len() {
-        byte(to, row[at])?;
-        at += 1;
-    }
-    Ok(())
-}
-
-// Two hexadecimal digits.
-fn byte<W: Write>(to: &mut W, value: u8) -> io::Result<()> {
-    write!(to, "{value:02x}")
 }
 
 // The sum of the bytes, and the sum of all the sums on the way, both as remainders by 65521.
-fn sums<W: Write>(to: &mut W, row: &[u8]) -> io::Result<()> {
-    let mut plain: u64 = 0;
-    let mut weighted: u64 = 0;
-    let mut at = 0;
-    while at < row.len() {
-        plain = (plain + wide(row[at])) % 65521;
-        weighted = (weighted + plain) % 65521;
-        at += 1;
-    }
-    two_sums(to, plain, weighted)
+#[derive(Clone, Copy)]
+struct Sums {
+    plain: u64,
+    weighted: u64,
 }
 
-fn two_sums<W: Write>(to: &mut W, plain: u64, weighted: u64) -> io::Result<()> {
-    write!(to, "sums {plain} {weighted}")
+impl Sums {
+    fn of(row: &[u8]) -> Sums {
+        let mut plain: u64 = 0;
+        let mut weighted: u64 = 0;
+        for byte in row {
+            plain = (plain + u64::from(*byte)) % 65521;
+            weighted = (weighted + plain) % 65521;
+        }
+        Sums { plain, weighted }
+    }
+}
+
+impl fmt::Display for Sums {
+    fn fmt<W: fmt::Write>(&self, f: &mut fmt::Formatter<W>) -> fmt::Result {
+        write!(f, "sums {} {}", self.plain, self.weighted)
+    }
 }

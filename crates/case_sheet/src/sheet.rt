@@ -1,26 +1,25 @@
 // The sheet: a line for each case has its name, a colon, a space, and the file's bytes as hexadecimal digits.
 use crate::show;
-use input::large_buffer;
-use sheet_lines::{find, fitting, read_digits};
+use input::{FILE_ROOM, filled};
+use sheet_lines::{fitting, read_digits};
 use std::io;
 use std::io::Write;
 
 pub fn each_line<W: Write>(to: &mut W, text: &[u8]) -> io::Result<()> {
-    let mut at = 0;
-    while at < text.len() {
-        let end = find(text, at, b'\n');
-        run_line(to, &text[at..end])?;
-        at = end + 1;
+    for line in text.split_inclusive(|byte| *byte == b'\n') {
+        run_line(to, line.strip_suffix(b"\n").unwrap_or(line))?;
     }
     Ok(())
 }
 
 fn run_line<W: Write>(to: &mut W, line: &[u8]) -> io::Result<()> {
-    let colon = fitting(find(line, 0, b':'), line);
-    to.write_all(&line[..colon])?;
-    let digits = fitting(colon + 2, line);
-    let mut file = large_buffer();
-    let count = read_digits(&line[digits..], &mut file);
-    let length = fitting(count, &file);
-    show::answers(to, &file[..length])
+    let colon = line
+        .iter()
+        .position(|byte| *byte == b':')
+        .unwrap_or(line.len());
+    let (name, rest) = line.split_at(colon);
+    to.write_all(name)?;
+    let digits = &rest[fitting(2, rest)..];
+    let mut file = filled::<u8, FILE_ROOM>(0);
+    show::answers(to, read_digits(digits, &mut file))
 }

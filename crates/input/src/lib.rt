@@ -8,12 +8,21 @@ ghost use Rattle.std.specs.Io.KnownBytes.{Consumes, IsAtEnd, ReadConsumes};
 use std::io;
 use std::io::{ErrorKind, Read};
 
-// 65,536 zeros, which hold any file that is accepted. The `ensures` gives only the length, which lending the array as a slice
-// needs.
-pub fn large_buffer() -> [u8; 65536]
+// The places of a buffer that holds any file that is accepted.
+pub const FILE_ROOM: usize = 65536;
+
+// A row whose places all hold `value`. The `ensures` gives only the length, which lending the array as a slice needs.
+pub fn filled<T: Copy, const N: usize>(value: T) -> [T; N]
+    ensures { N ≡ length result }
+{
+    [value; N]
+}
+
+// As many zeros.
+pub fn large_buffer() -> [u8; FILE_ROOM]
     ensures { 65536 ≡ length result }
 {
-    [0; 65536]
+    filled(0)
 }
 
 // Reads until `room` is full or the input ends, and answers how many bytes stand at the start of `room`. With `in_bounds` and

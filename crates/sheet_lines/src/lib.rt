@@ -1,94 +1,62 @@
 // Reading the lines of a sheet of cases, for the programs that run one.
 #![tactic(auto)]
 
-ghost use Rattle.std.specs.Prelude.{◌*◌, ◌≡◌, ◌≤◌, ◌<◌, length, take};
+ghost use Rattle.std.specs.Prelude.{◌≡◌, ◌≤◌, ◌<◌, length, take, drop};
+ghost use Rattle.std.specs.List.{list_all};
+ghost use Rattle.sheet_lines.specs.Digits.{digit_value, with_digit, number};
 
-// A number that stands in a line, and the place behind the space that ends it.
-#[derive(Clone, Copy)]
-pub struct Numeral {
-    pub value: u16,
-    pub next: usize,
-}
-
-// The place of the first `wanted` from `from` on, or the length where there is none.
-pub fn find(text: &[u8], from: usize, wanted: u8) -> usize
-    requires { from ≤ length text.now }
-    ensures { (from ≤ result) × (result ≤ length text.now) }
-{
-    let mut at = from;
-    while at < text.len() {
-        if text[at] == wanted {
-            return at;
-        }
-        at += 1;
-    }
-    at
-}
+// The places of a buffer that holds a whole sheet.
+pub const SHEET_ROOM: usize = 262144;
 
 // The size itself, or the length of `room` where that is less. With what it ensures, `&room[..r]` is proved with no proof file.
-pub fn fitting(size: usize, room: &[u8]) -> usize
+pub fn fitting<T>(size: usize, room: &[T]) -> usize
     ensures in_bounds { result ≤ length room.now }
     ensures taken { result ≡ length (take result room.now) }
 {
-    if size < room.len() { size } else { room.len() }
+    size.min(room.len())
 }
 
-// The number whose decimal digits stand from `from` on, up to a space or the end of the line, as a remainder by 65536.
-pub fn number_from(line: &[u8], from: usize) -> Numeral {
-    let mut value = 0;
-    let mut at = from;
-    while at < line.len() {
-        if line[at] == b' ' {
-            return Numeral {
-                value,
-                next: at + 1,
-            };
-        }
-        value = with_digit(value, line[at]);
-        at += 1;
-    }
-    Numeral { value, next: at }
-}
-
-fn with_digit(value: u16, byte: u8) -> u16 {
-    ((value as u32 * 10 + digit(byte) as u32) % 65536) as u16
-}
-
-// Puts the bytes that hexadecimal digits spell at the start of `file`, and answers how many there are. A last digit without a
-// partner is left out, and so is what `file` has no place for.
-pub fn read_digits(digits: &[u8], file: &mut [u8]) -> usize {
-    let count = pairs(digits.len(), file.len());
-    let mut at = 0;
-    while at < count {
-        file[at] = digit(digits[2 * at]) * 16 + digit(digits[2 * at + 1]);
-        at += 1;
-    }
-    count
-}
-
-// How many pairs there are among `places` places, and `most` where there are more.
-fn pairs(places: usize, most: usize) -> usize
-    ensures { (2 * result ≤ places) × (result ≤ most) }
+// Whether every place from `from` on holds `blank`.
+pub fn is_blank<T: PartialEq>(row: &[T], from: usize, blank: &T) -> bool
+    ensures { result ≡ list_all (λ place. T.eq place blank.now) (drop from row.now) }
 {
-    let all = places / 2;
-    if most < all { most } else { all }
+    row.iter().skip(from).all(|place| place == blank)
+}
+
+// The number that decimal digits spell, as a remainder by 65536.
+pub fn number(digits: &[u8]) -> u16
+    ensures { result ≡ number digits.now }
+{
+    digits
+        .iter()
+        .fold(0, |value, byte| with_digit(value, *byte))
+}
+
+fn with_digit(value: u16, byte: u8) -> u16
+    ensures { result ≡ with_digit value byte }
+{
+    ((u32::from(value) * 10 + u32::from(digit(byte))) % 65536) as u16
+}
+
+// Puts the bytes that hexadecimal digits spell at the start of `file`, and gives those. A last digit without a partner is left
+// out, and so is what `file` has no place for.
+pub fn read_digits<'a>(digits: &[u8], file: &'a mut [u8]) -> &'a [u8] {
+    let (pairs, _) = digits.as_chunks::<2>();
+    for (byte, pair) in file.iter_mut().zip(pairs) {
+        *byte = digit(pair[0]) * 16 + digit(pair[1]);
+    }
+    let length = fitting(pairs.len(), file);
+    &file[..length]
 }
 
 // The value of a digit, and 0 for a byte that is none.
 fn digit(byte: u8) -> u8
-    ensures { result < 16 }
+    ensures bound { result < 16 }
+    ensures value { result ≡ digit_value byte }
 {
-    if byte < b'0' {
-        return 0;
+    match byte {
+        b'0'..=b'9' => byte - b'0',
+        b'a'..=b'f' => byte - b'a' + 10,
+        _ => 0,
     }
-    if byte <= b'9' {
-        return byte - b'0';
-    }
-    if byte < b'a' {
-        return 0;
-    }
-    if byte <= b'f' {
-        return byte - b'a' + 10;
-    }
-    0
 }

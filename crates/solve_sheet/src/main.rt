@@ -3,23 +3,15 @@
 // tools/solve_sheet.py, which has a solver of its own.
 #![tactic(auto)]
 
-mod print;
 mod sheet;
 mod show;
 
-ghost use Rattle.std.specs.Prelude.{◌≡◌, length};
-
+use input::filled;
+use sheet_lines::SHEET_ROOM;
 use std::io;
 
-// Room for the whole sheet. The `ensures` gives the length alone, which is what lending the array asks for.
-fn sheet_room() -> [u8; 262144]
-    ensures { 262144 ≡ length result }
-{
-    [0; 262144]
-}
-
 fn main(rt: HostRuntime) -> io::Result<()> {
-    let mut room = sheet_room();
+    let mut room = filled::<u8, SHEET_ROOM>(0);
     let count = input::read_full(&mut rt.stdin(), &mut room)?;
     let mut to = io::writer(&rt);
     sheet::each_line(&mut to, &room[..count])
