@@ -1,6 +1,7 @@
 // Whether a row of states settles a round, told by the starts.
 ghost use Rattle.std.specs.Prelude.{◌≡◌, not, ◌&&◌, ◌≤◌, length, get_or, eqb};
 ghost use Rattle.std.specs.Bool.{beq};
+ghost use Rattle.std.specs.List.{list_any, zip};
 ghost use Rattle.game.specs.Limits.{max_states};
 ghost use Rattle.game.specs.Game.{marked};
 ghost use Rattle.game.specs.Published.{goal_of};
@@ -16,16 +17,21 @@ fn decides(reach: bool, marks: u8, pass: u16) -> bool
     has_mark(1, marks) && (pass != 0) == reach
 }
 
+// Some start decides.
+fn some_decides(reach: bool, starts: &[u8], row: &[u16]) -> bool
+    ensures { result ≡ list_any (λ p. marked 1 p.0 && beq (not (eqb p.1 0)) reach) (zip starts.now row.now) }
+{
+    starts
+        .iter()
+        .zip(row)
+        .any(|(marks, pass)| decides(reach, *marks, *pass))
+}
+
 // The hunting side has its way: some start is in the row (reach, objective 1), or every start is (stay).
 pub fn has_way(n: usize, objective: u16, starts: &[u8], row: &[u16]) -> bool
     requires { (n ≤ max_states) × (n ≤ length starts.now) × (n ≤ length row.now) }
     ensures { result ≡ has_way (goal_of objective) n (λ s. marked 1 (get_or starts.now s 0)) (is_in row.now) }
 {
     let reach = objective == 1;
-    for s in 0..n {
-        if decides(reach, starts[s], row[s]) {
-            return reach;
-        }
-    }
-    !reach
+    some_decides(reach, &starts[..n], &row[..n]) == reach
 }
