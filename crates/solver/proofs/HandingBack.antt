@@ -1,17 +1,16 @@
 -- The ends of the solver: refusals, and the rows that are written.
 use mathlib.Core.Path.{◌≡◌, refl, sym, ap, subst, ◌∙◌}
 use mathlib.Core.Bool.{◌&&◌}
-use mathlib.Core.List.{List, ◌++◌}
+use mathlib.Core.List.{List}
 use Prim.Native.Nat.{ℕ, zero, suc, ◌≤◌, ◌<◌}
 use native.Mathlib.Omega.{arith}
-use lib.ListN.{length, get_or, take, drop}
-use Rattle.std.proofs.lemmas.List.{length-take-le, get_or-take}
+use lib.ListN.{length, get_or}
 use lib.Dec.{leb}
 use borrow.Author.Tests.{le-leb, lt-leb}
 use Rattle.game.specs.Limits.{max_states}
 use Rattle.game.specs.Rows.{fill, zeros}
 use Rattle.game.specs.declared.Game.{Game}
-use Rattle.game.proofs.Rows.{fill_at, fill_cong, fill-row}
+use Rattle.game.proofs.Rows.{fill_at, fill_cong}
 use Rattle.game.specs.Game.{turn_at}
 use Rattle.std.specs.Prelude.{Ok, Err}
 use Rattle.file.specs.declared.refusal.Refusal.{Refusal}
@@ -96,7 +95,7 @@ module _ (f : List ℕ) (allowance : ℕ) (lent : Rows) where
 
 -- ## What is handed back
 
-module _ {g : Game} {n m objective : ℕ} {turn starts from to block low up : List ℕ} (f : Finished g n m objective turn starts from to block low up) where
+module _ {g : Game} {side n m objective : ℕ} {turn starts from to block low up : List ℕ} (f : Finished g side n m objective turn starts from to block low up) where
   -- how many states there are, and how long the rows of the last round
   pub few : n ≤ max_states
   few = omega (arith, f.states_is, f.worked.ranged.few-states)
@@ -108,10 +107,11 @@ module _ {g : Game} {n m objective : ℕ} {turn starts from to block low up : Li
   upper_long = omega (arith, f.states_is, f.worked.upper_long)
 
   -- what the plan is worked out from
-  pub planning : Planning g m objective turn from to low up
+  pub planning : Planning g side m turn from to low up
   planning = record {
+    known = f.known;
+    hunts = f.hunts;
     moves_is = f.moves_is;
-    objective_is = f.objective_is;
     turn_is = subst (λ (k : ℕ). Holds k turn (turn_at g)) (sym f.states_is) f.turn_is;
     from_is = f.from_is;
     to_is = f.to_is;
@@ -134,10 +134,3 @@ module _ {g : Game} {n m objective : ℕ} {turn starts from to block low up : Li
       → out ≡ fill n (λ s. get_or values s 0) row → out ≡ fill g.states F row
   written F values row out places e =
       e ∙ fill_cong n (λ s. get_or values s 0) F row (λ s l. places s (omega (arith, f.states_is))) ∙ ap (λ (k : ℕ). fill k F row) (sym f.states_is)
-
--- the first places of a row, copied over those of another
-pub copied : (n : ℕ) (values out : List ℕ) → n ≤ length values → take n values ++ drop n out ≡ fill n (λ s. get_or values s 0) out
-copied n values out l =
-    let e : length (take n values) ≡ n = length-take-le n values l in
-    subst (λ (k : ℕ). take n values ++ drop k out ≡ fill k (λ s. get_or values s 0) out) e
-    (sym (fill-row (take n values) (λ s. get_or values s 0) 0 out (λ k m. sym (get_or-take n values k 0 (omega (arith, e, m))))))

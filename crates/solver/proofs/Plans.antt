@@ -21,7 +21,7 @@ use Rattle.game.specs.Published.{side_of, goal_of, arena_of}
 use Rattle.game.specs.declared.Game.{Game}
 use Rattle.game.proofs.Turns.{same_turn, other-turn}
 use Rattle.blocks.specs.Round.{inside_step}
-use Rattle.blocks.specs.Hunt.{hunter, lower}
+use Rattle.blocks.specs.Hunt.{lower}
 use Rattle.growth.proofs.Stamp.{stamp-rank}
 use Rattle.runs.specs.Run.{Word, YES, NO, OPEN, word}
 use Rattle.arena.specs.Plan.{no_move}
@@ -157,7 +157,7 @@ module _ {g : Game} {low up : List ℕ} (w : Worked g low up) (side : ℕ) (know
       (λ h t m. sym (flee_good w s t l m ∙ rw h refl))
       (λ h t m. flee_good w s t l m ∙ rw h refl))
 
-module _ {g : Game} {m objective : ℕ} {turn from to low up : List ℕ} (p : Planning g m objective turn from to low up) where
+module _ {g : Game} {side m : ℕ} {turn from to low up : List ℕ} (p : Planning g side m turn from to low up) where
   -- a walk over the moves goes through places that there are
   pub walk-safe : (row : List ℕ) → g.states ≤ length row → Walk g.states m turn from to row
   walk-safe row long = record {
@@ -168,43 +168,35 @@ module _ {g : Game} {m objective : ℕ} {turn from to low up : List ℕ} (p : Pl
     row-long = long;
   }
 
-  -- the side that hunts, by the objective that is handed over
-  hunts-here : hunter (goal_of objective) ≡ hunting_side g
-  hunts-here = ap (λ (o : ℕ). hunter (goal_of o)) (sym p.objective_is)
-
-  module _ (side : ℕ) (known : T (known_turn side)) (s : ℕ) (l : s < g.states) (v : ℕ) where
+  module _ (winner : ℕ) (known : T (known_turn winner)) (s : ℕ) (l : s < g.states) (v : ℕ) where
     -- a walk over the rows is one over the game's moves
     walk_is : (chase : Bool) (row : ℕ → ℕ)
-        → lowest_good side chase (λ t. get_or turn t 0) (λ k. get_or from k 0) (λ k. get_or to k 0) row m s ≡ lowest_good side chase (turn_at g) (from_at g) (to_at g) row g.moves s
+        → lowest_good winner chase (λ t. get_or turn t 0) (λ k. get_or from k 0) (λ k. get_or to k 0) row m s ≡ lowest_good winner chase (turn_at g) (from_at g) (to_at g) row g.moves s
     walk_is chase row =
-        good_alike side chase (λ t. get_or turn t 0) (λ k. get_or from k 0) (λ k. get_or to k 0) row (turn_at g) (from_at g) (to_at g) m s (p.turn_is.cell s l) p.from_is.cell p.to_is.cell
-        ∙ ap (λ (k : ℕ). lowest_good side chase (turn_at g) (from_at g) (to_at g) row k s) (sym p.moves_is)
+        good_alike winner chase (λ t. get_or turn t 0) (λ k. get_or from k 0) (λ k. get_or to k 0) row (turn_at g) (from_at g) (to_at g) m s (p.turn_is.cell s l) p.from_is.cell p.to_is.cell
+        ∙ ap (λ (k : ℕ). lowest_good winner chase (turn_at g) (from_at g) (to_at g) row k s) (sym p.moves_is)
 
     -- the winner hunts: what the walk over the lower row left
-    pub winner_chases : side_of side ≡ hunter (goal_of objective) → v ≡ lowest_good side true (λ t. get_or turn t 0) (λ k. get_or from k 0) (λ k. get_or to k 0) (λ t. get_or low t 0) m s
-        → v ≡ winner_rule g (side_of side) s
+    pub winner_chases : side ≡ winner → v ≡ lowest_good winner true (λ t. get_or turn t 0) (λ k. get_or from k 0) (λ k. get_or to k 0) (λ t. get_or low t 0) m s
+        → v ≡ winner_rule g (side_of winner) s
     winner_chases h q =
-        let e = h ∙ hunts-here in
-        q ∙ walk_is true (λ t. get_or low t 0) ∙ chased p.worked side known s l e ∙ rw e (go (hunting_side g))
+        let e = ap side_of (sym h) ∙ p.hunts in
+        q ∙ walk_is true (λ t. get_or low t 0) ∙ chased p.worked winner known s l e ∙ rw e (go (hunting_side g))
       where
         go : (i : Side) → chase_rule g (goal_of g.objective) s ≡ cond (same i i) (chase_rule g (goal_of g.objective) s) (flee_rule g (goal_of g.objective) s)
         go one = refl
         go two = refl
 
     -- the winner is hunted: what the walk over the upper row left
-    pub winner_flees : side_of side ≡ other (hunter (goal_of objective)) → v ≡ lowest_good side false (λ t. get_or turn t 0) (λ k. get_or from k 0) (λ k. get_or to k 0) (λ t. get_or up t 0) m s
-        → v ≡ winner_rule g (side_of side) s
-    winner_flees h q =
-        let e = h ∙ ap other hunts-here in
-        q ∙ walk_is false (λ t. get_or up t 0) ∙ fled p.worked side known s l e ∙ rw e (go (hunting_side g))
+    pub winner_flees : (side ≡ winner → ⊥) → v ≡ lowest_good winner false (λ t. get_or turn t 0) (λ k. get_or from k 0) (λ k. get_or to k 0) (λ t. get_or up t 0) m s
+        → v ≡ winner_rule g (side_of winner) s
+    winner_flees ne q =
+        let e = other-turn side winner p.known known ne ∙ ap other p.hunts in
+        q ∙ walk_is false (λ t. get_or up t 0) ∙ fled p.worked winner known s l e ∙ rw e (go (hunting_side g))
       where
         go : (i : Side) → flee_rule g (goal_of g.objective) s ≡ cond (same (other i) i) (chase_rule g (goal_of g.objective) s) (flee_rule g (goal_of g.objective) s)
         go one = refl
         go two = refl
-
--- the side that does not hunt is the hunter's opponent
-pub hunted : (i : Side) (hunts side : ℕ) → side_of hunts ≡ i → T (known_turn hunts) → T (known_turn side) → (hunts ≡ side → ⊥) → side_of side ≡ other i
-hunted i hunts side e p q ne = other-turn hunts side p q ne ∙ ap other e
 
 -- ## The plan of a decision
 

@@ -21,6 +21,8 @@ use Rattle.game.specs.declared.Game.{Game}
 use Rattle.blocks.specs.Hunt.{hunter, prey}
 use Rattle.arena.specs.Win.{Goal, to_reach, to_stay}
 use Rattle.chains.specs.Lent.{Holds, Keys, many_of, Linked, need_of}
+use Rattle.game.specs.Rows.{fill, zeros}
+use Rattle.chains.proofs.Filling.{row_holds}
 use Rattle.chains.proofs.Counts.{holds_cong}
 use Rattle.rounds.specs.Search.{first_move}
 use Rattle.rounds.proofs.FirstMoves.{first_held}
@@ -56,6 +58,26 @@ read_apart f e ns ms os hunts known turns marks blocks froms tos firsts = record
   prey_is = holds_cong firsts (λ s l. rw os (ap bit (prey-same (goal_of (objective_of f)) _ _ s (ap (marked 2) (marks.cell s l ∙ sym (marks_is f s (omega arith)))))));
   block_is = holds_cong blocks (λ s l. sym (block_is f s (omega arith)));
 }
+
+-- an accepted file has no more states and moves than there are places
+pub few-states_of : (f : List ℕ) → refusal f ≡ 0 → {n : ℕ} → n ≡ states f → n ≤ max_states
+few-states_of f e p = rw p (accepted_sound f 0 (sym e) refl).few-states
+
+pub few-moves_of : (f : List ℕ) → refusal f ≡ 0 → {m : ℕ} → m ≡ moves f → m ≤ max_moves
+few-moves_of f e p = rw p (accepted_sound f 0 (sym e) refl).few-moves
+
+-- from what the calls that read them wrote
+pub read_rows : (f : List ℕ) → refusal f ≡ 0 → {side n m objective : ℕ} → n ≡ states f → m ≡ moves f → objective ≡ objective_of f
+    → (side_of side ≡ hunter (goal_of objective)) × T (known_turn side) → {turn starts block from to first-row : List ℕ}
+    → turn ≡ fill n (turn_of f) (zeros max_states) → starts ≡ fill n (marks_of f) (zeros max_states) → block ≡ fill n (block_of f) (zeros max_states)
+    → from ≡ fill m (from_of f) (zeros max_moves) → to ≡ fill m (to_of f) (zeros max_moves)
+    → first-row ≡ fill n (λ s. bit (prey (goal_of objective) (λ t. marked 2 (get_or starts t 0)) s)) (zeros max_states)
+    → Apart (game_of f) side n m objective turn starts from to first-row block
+read_rows f e ns ms os hunts turns marks blocks froms tos firsts =
+    let few = few-states_of f e ns in
+    let short = few-moves_of f e ms in
+    read_apart f e ns ms os hunts.0 hunts.1 (row_holds _ max_states few _ turns) (row_holds _ max_states few _ marks) (row_holds _ max_states few _ blocks)
+    (row_holds _ max_moves short _ froms) (row_holds _ max_moves short _ tos) (row_holds _ max_states few _ firsts)
 
 module _ {g : Game} {side n m objective : ℕ} {turn starts from to prey block : List ℕ} (a : Apart g side n m objective turn starts from to prey block) where
   pub few-states : n ≤ max_states
@@ -96,8 +118,10 @@ module _ {g : Game} {side n m objective : ℕ} {turn starts from to prey block :
 -- what is left of a run is ready to be handed back
 pub finished : {g : Game} {side n m objective allowance : ℕ} {turn starts from to last before need first prey block : List ℕ} {splits : ℕ} {lower upper : List ℕ}
     → Final g side n m objective allowance turn starts from to last before need first prey block splits lower upper
-    → Finished (run lowest_first allowance g).last n m objective turn starts from to block lower upper
+    → Finished (run lowest_first allowance g).last side n m objective turn starts from to block lower upper
 finished {g} {n = n} {allowance = allowance} {lower = lower} {upper = upper} f = record {
+  known = f.present.known;
+  hunts = f.present.hunts;
   states_is = f.present.states_is;
   moves_is = f.present.moves_is;
   objective_is = f.present.objective_is;
@@ -122,10 +146,3 @@ pub handed_back : {g : Game} {side n m objective allowance : ℕ} {turn starts f
     → HandedBack (run lowest_first allowance g) lent verdict rows
 handed_back {g} {allowance = allowance} f lent back =
     let h = (run lowest_first allowance g).last in (back.0 ∙ ap (said (decision_of (word h) h)) f.splits_is, back.1)
-
--- an accepted file has no more states and moves than there are places
-pub few-states_of : (f : List ℕ) → refusal f ≡ 0 → {n : ℕ} → n ≡ states f → n ≤ max_states
-few-states_of f e p = rw p (accepted_sound f 0 (sym e) refl).few-states
-
-pub few-moves_of : (f : List ℕ) → refusal f ≡ 0 → {m : ℕ} → m ≡ moves f → m ≤ max_moves
-few-moves_of f e p = rw p (accepted_sound f 0 (sym e) refl).few-moves

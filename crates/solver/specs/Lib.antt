@@ -1,3 +1,4 @@
 pub mod Rules
 pub mod Solve
 pub mod Work
+pub mod Grouped

@@ -65,8 +65,10 @@ pub record Worked (g : Game) (low up : List ℕ) : Type 0 where
   pub lower_is : (s : ℕ) → s < g.states → get_or low s 0 ≡ lower_pass g s
   pub upper_in : (s : ℕ) → s < g.states → is_in up s ≡ upper_states g s
 
--- the rows of plain numbers that are lent when a run is over, and what they say of its last game
-pub record Finished (g : Game) (n m objective : ℕ) (turn starts from to block low up : List ℕ) : Type 0 where
+-- the side that hunts and the rows of plain numbers that are lent when a run is over, and what they say of its last game
+pub record Finished (g : Game) (side n m objective : ℕ) (turn starts from to block low up : List ℕ) : Type 0 where
+  pub known : T (known_turn side)
+  pub hunts : side_of side ≡ hunting_side g
   pub states_is : g.states ≡ n
   pub moves_is : g.moves ≡ m
   pub objective_is : g.objective ≡ objective
@@ -94,10 +96,11 @@ decision_by n starts marks =
 
 -- ## The plan at work
 
--- what a plan is worked out from: whose turn each state is, the moves, and the rows of the last round
-pub record Planning (g : Game) (m objective : ℕ) (turn from to low up : List ℕ) : Type 0 where
+-- what a plan is worked out from: the side that hunts, whose turn each state is, the moves, and the rows of the last round
+pub record Planning (g : Game) (side m : ℕ) (turn from to low up : List ℕ) : Type 0 where
+  pub known : T (known_turn side)
+  pub hunts : side_of side ≡ hunting_side g
   pub moves_is : g.moves ≡ m
-  pub objective_is : g.objective ≡ objective
   pub turn_is : Holds g.states turn (turn_at g)
   pub from_is : Holds m from (from_at g)
   pub to_is : Holds m to (to_at g)

@@ -6,13 +6,17 @@ ghost use Rattle.game.specs.Limits.{max_states};
 ghost use Rattle.game.specs.declared.Game.{Game};
 ghost use Rattle.runs.specs.Run.{lowest_first, run};
 ghost use Rattle.solver.specs.Solve.{said, run_of, solved};
-ghost use Rattle.solver.specs.Work.{Finished, decision_by, Apart, HandedBack};
-ghost use Rattle.rows.specs.RoundRows.{Present};
+ghost use Rattle.solver.specs.Work.{decision_by, HandedBack};
+ghost use Rattle.solver.specs.Grouped.{FinishedOn};
+ghost use Rattle.rows.specs.Grouped.{PresentOn};
 ghost use Rattle.file.specs.Refusals.{refusal};
 ghost use Rattle.decoding.specs.Decode.{game_of};
 
+use chains::copy_row;
+use chains::lent::{Board, Moves};
 use file::{Refusal, first_refusal, number_at};
 use game::{Game, StateNo};
+use outcome::Ran;
 
 mod plan;
 mod written;
@@ -64,108 +68,47 @@ fn spoken(decision: Decision, splits: u16) -> Verdict
 // The verdict of a run that is over, by the rows of its last round; the marks, the blocks and the plan are written into
 // the three rows, one place per state. The rest keep their content.
 fn hand_back(
-    n: usize,
-    m: usize,
-    objective: u16,
-    splits: u16,
-    turn: &[u8],
-    starts: &[u8],
-    from: &[u16],
-    to: &[u16],
+    board: &Board<'_>,
+    ran: &Ran,
     block: &[u16],
-    lower: &[u16],
-    upper: &[u16],
     marks: &mut [u16],
     blocks: &mut [u16],
     moves: &mut [u16],
 ) -> Verdict
-    requires finished { (g : Game) × Finished g n m objective turn.now starts.now from.now to.now block.now lower.now upper.now }
+    requires finished { (g : Game) × FinishedOn g board.now block.now ran.now.lower ran.now.upper }
     requires room { (max_states ≤ length marks.old) × (max_states ≤ length blocks.old) × (max_states ≤ length moves.old) }
-    ensures { (g : Game) → Finished g n m objective turn.now starts.now from.now to.now block.now lower.now upper.now → HandedBack (record { splits = splits; last = g }) (record { marks = marks.old; blocks = blocks.old; moves = moves.old }) result (record { marks = marks.new; blocks = blocks.new; moves = moves.new }) }
+    ensures { (g : Game) → FinishedOn g board.now block.now ran.now.lower ran.now.upper → HandedBack (record { splits = ran.now.splits; last = g }) (record { marks = marks.old; blocks = blocks.old; moves = moves.old }) result (record { marks = marks.new; blocks = blocks.new; moves = moves.new }) }
 {
-    let worked = written::mark_row(n, objective, lower, upper);
-    let decision = decide(n, starts, &worked);
-    let plan = plan::plan_row(m, objective, turn, from, to, lower, upper, decision);
-    written::write_row(n, &worked, marks);
-    written::write_row(n, block, blocks);
-    written::write_row(n, &plan, moves);
-    spoken(decision, splits)
+    let n = board.moves.states;
+    let worked = written::mark_row(n, board.objective, &ran.lower, &ran.upper);
+    let decision = decide(n, board.starts, &worked);
+    let plan = plan::plan_row(board, &ran.lower, &ran.upper, decision);
+    copy_row(n, &worked, marks);
+    copy_row(n, block, blocks);
+    copy_row(n, &plan, moves);
+    spoken(decision, ran.splits)
 }
 
 // Plays the run of a game whose rows are lent, and hands back what came of it.
 fn run_and_hand_back(
-    n: usize,
-    m: usize,
-    objective: u16,
-    side: u8,
+    board: &Board<'_>,
     allowance: u16,
-    turn: &[u8],
-    starts: &[u8],
-    from: &[u16],
-    to: &[u16],
-    last: &[u16],
-    before: &[u16],
-    need: &[u16],
-    first: &[u16],
-    prey: &[u16],
     block: &mut [u16],
     marks: &mut [u16],
     blocks: &mut [u16],
     moves: &mut [u16],
 ) -> Verdict
-    requires present { (g : Game) × Present g side n m objective turn.now starts.now from.now to.now last.now before.now need.now first.now prey.now block.old }
+    requires present { (g : Game) × PresentOn g board.now block.old }
     requires room { (max_states ≤ length marks.old) × (max_states ≤ length blocks.old) × (max_states ≤ length moves.old) }
-    ensures { (g : Game) → Present g side n m objective turn.now starts.now from.now to.now last.now before.now need.now first.now prey.now block.old → HandedBack (run lowest_first allowance g) (record { marks = marks.old; blocks = blocks.old; moves = moves.old }) result (record { marks = marks.new; blocks = blocks.new; moves = moves.new }) }
+    ensures { (g : Game) → PresentOn g board.now block.old → HandedBack (run lowest_first allowance g) (record { marks = marks.old; blocks = blocks.old; moves = moves.old }) result (record { marks = marks.new; blocks = blocks.new; moves = moves.new }) }
 {
-    let ran = outcome::run_rounds(
-        n, m, objective, side, allowance, turn, starts, from, to, last, before, need, first, prey,
-        block,
-    );
-    let lower = ran.lower;
-    let upper = ran.upper;
-    hand_back(
-        n, m, objective, ran.splits, turn, starts, from, to, block, &lower, &upper, marks, blocks,
-        moves,
-    )
-}
-
-// Links the moves into each state, and works out where each state's moves begin and how many it needs; then plays the run.
-fn solve_rows(
-    n: usize,
-    m: usize,
-    objective: u16,
-    side: u8,
-    allowance: u16,
-    turn: &[u8],
-    starts: &[u8],
-    from: &[u16],
-    to: &[u16],
-    prey: &[u16],
-    block: &mut [u16],
-    marks: &mut [u16],
-    blocks: &mut [u16],
-    moves: &mut [u16],
-) -> Verdict
-    requires apart { (g : Game) × Apart g side n m objective turn.now starts.now from.now to.now prey.now block.old }
-    requires room { (max_states ≤ length marks.old) × (max_states ≤ length blocks.old) × (max_states ≤ length moves.old) }
-    ensures { (g : Game) → Apart g side n m objective turn.now starts.now from.now to.now prey.now block.old → HandedBack (run lowest_first allowance g) (record { marks = marks.old; blocks = blocks.old; moves = moves.old }) result (record { marks = marks.new; blocks = blocks.new; moves = moves.new }) }
-{
-    let mut last = [0u16; Game::MAX_STATES];
-    let mut before = [0u16; Game::MAX_MOVES];
-    let mut need = [0u16; Game::MAX_STATES];
-    let mut first = [0u16; ENDS];
-    chains::link(n, m, to, &mut last, &mut before);
-    chains::count_keys(n, m, from, &mut need);
-    chains::need_row(n, turn, side, &mut need);
-    rounds::first_moves(n, m, from, &mut first);
-    run_and_hand_back(
-        n, m, objective, side, allowance, turn, starts, from, to, &last, &before, &need, &first,
-        prey, block, marks, blocks, moves,
-    )
+    let ran = outcome::run_rounds(board, allowance, block);
+    hand_back(board, &ran, block, marks, blocks, moves)
 }
 
 // Solves the game of an accepted file, and writes the three rows. The records are read into rows of plain numbers here,
-// once; the rows are lent to all that follows.
+// once: the moves into each state are linked, and where each state's moves begin and how many it needs is worked out. The
+// rows are lent to all that follows.
 fn solve_game(
     file: &[u8],
     allowance: u16,
@@ -186,13 +129,36 @@ fn solve_game(
     let mut block = [0u16; Game::MAX_STATES];
     let mut from = [0u16; Game::MAX_MOVES];
     let mut to = [0u16; Game::MAX_MOVES];
+    let mut last = [0u16; Game::MAX_STATES];
+    let mut before = [0u16; Game::MAX_MOVES];
+    let mut need = [0u16; Game::MAX_STATES];
+    let mut first = [0u16; ENDS];
     decoding::plain::plain_states(file, n, &mut turn, &mut starts, &mut block);
     decoding::plain::plain_moves(file, n, m, &mut from, &mut to);
     let prey = rounds::prey_row(n, objective, starts);
-    solve_rows(
-        n, m, objective, side, allowance, &turn, &starts, &from, &to, &prey, &mut block, marks,
-        blocks, moves,
-    )
+    chains::link(n, m, &to, &mut last, &mut before);
+    chains::count_keys(n, m, &from, &mut need);
+    chains::need_row(n, &turn, side, &mut need);
+    rounds::first_moves(n, m, &from, &mut first);
+    let all_moves = Moves {
+        states: n,
+        moves: m,
+        from: &from,
+        to: &to,
+        last: &last,
+        before: &before,
+        need: &need,
+    };
+    let board = Board {
+        objective,
+        side,
+        turn: &turn,
+        starts: &starts,
+        prey: &prey,
+        first: &first,
+        moves: all_moves,
+    };
+    run_and_hand_back(&board, allowance, &mut block, marks, blocks, moves)
 }
 
 // Solves the game of a file with at most `allowance` splits, and writes the three rows: marks, blocks and moves, one

@@ -8,10 +8,13 @@ ghost use Rattle.game.specs.declared.Game.{Game};
 ghost use Rattle.runs.specs.Run.{word};
 ghost use Rattle.solver.specs.Rules.{planned};
 ghost use Rattle.solver.specs.Solve.{decision_of};
-ghost use Rattle.solver.specs.Work.{good_move, lower_of, lowest_good, Walk, Planning, winner_rule};
+ghost use Rattle.solver.specs.Work.{good_move, lower_of, winner_rule};
+ghost use Rattle.solver.specs.Grouped.{WalkOn, good_on, PlanningOn};
 
 use crate::Decision;
+use chains::lent::Board;
 use game::Game;
+use rows::sets::Row;
 
 // No move.
 pub const NONE: u16 = 65535;
@@ -36,28 +39,20 @@ fn better(best: u16, to: u16, mine: bool, good: bool) -> u16
     if mine && good { best.min(to) } else { best }
 }
 
-// For each state of the side its lowest-numbered good move, or none.
-fn advice_row(
-    m: usize,
-    side: u8,
-    chase: bool,
-    turn: &[u8],
-    from: &[u16],
-    to: &[u16],
-    row: &[u16],
-) -> [u16; Game::MAX_STATES]
-    requires { (n : ℕ) × Walk n m turn.now from.now to.now row.now }
-    ensures { Cells max_states result (lowest_good side chase (λ s. get_or turn.now s 0) (λ k. get_or from.now k 0) (λ k. get_or to.now k 0) (λ s. get_or row.now s 0) m) }
+// For each state of the winner its lowest-numbered good move by a row of passes, or none.
+fn advice_row(board: &Board<'_>, winner: u8, chase: bool, row: &[u16]) -> Row
+    requires { (n : ℕ) × WalkOn n board.now row.now }
+    ensures { Cells max_states result (good_on board.now winner chase row.now board.now.moves.moves) }
 {
     let mut out = [NONE; Game::MAX_STATES];
-    for k in 0..m {
-        let f = from[k] as usize;
-        let next = to[k];
+    for k in 0..board.moves.moves {
+        let f = board.moves.from[k] as usize;
+        let next = board.moves.to[k];
         let t = next as usize;
         out[f] = better(
             out[f],
             next,
-            turn[f] == side,
+            board.turn[f] == winner,
             is_good(chase, row[f], row[t]),
         );
     }
@@ -65,44 +60,26 @@ fn advice_row(
 }
 
 // The plan of the side that wins: if it hunts, it chases; otherwise it flees.
-fn winner_row(
-    m: usize,
-    objective: u16,
-    turn: &[u8],
-    from: &[u16],
-    to: &[u16],
-    lower: &[u16],
-    upper: &[u16],
-    winner: u8,
-) -> [u16; Game::MAX_STATES]
-    requires planning { (g : Game) × Planning g m objective turn.now from.now to.now lower.now upper.now }
+fn winner_row(board: &Board<'_>, lower: &[u16], upper: &[u16], winner: u8) -> Row
+    requires planning { (g : Game) × PlanningOn g board.now lower.now upper.now }
     requires known { T (known_turn winner) }
-    ensures { (g : Game) → Planning g m objective turn.now from.now to.now lower.now upper.now → (s : ℕ) → s < g.states → get_or result s 0 ≡ winner_rule g (side_of winner) s }
+    ensures { (g : Game) → PlanningOn g board.now lower.now upper.now → (s : ℕ) → s < g.states → get_or result s 0 ≡ winner_rule g (side_of winner) s }
 {
-    let hunter = rounds::hunting_side(objective);
-    if hunter == winner {
-        return advice_row(m, winner, true, turn, from, to, lower);
+    if board.side == winner {
+        advice_row(board, winner, true, lower)
+    } else {
+        advice_row(board, winner, false, upper)
     }
-    advice_row(m, winner, false, turn, from, to, upper)
 }
 
 // The moves row of a round: an open one has no plan.
-pub fn plan_row(
-    m: usize,
-    objective: u16,
-    turn: &[u8],
-    from: &[u16],
-    to: &[u16],
-    lower: &[u16],
-    upper: &[u16],
-    decision: Decision,
-) -> [u16; Game::MAX_STATES]
-    requires { (g : Game) × Planning g m objective turn.now from.now to.now lower.now upper.now }
-    ensures { (g : Game) → Planning g m objective turn.now from.now to.now lower.now upper.now → decision ≡ decision_of (word g) g → (s : ℕ) → s < g.states → get_or result s 0 ≡ planned (word g) g s }
+pub fn plan_row(board: &Board<'_>, lower: &[u16], upper: &[u16], decision: Decision) -> Row
+    requires { (g : Game) × PlanningOn g board.now lower.now upper.now }
+    ensures { (g : Game) → PlanningOn g board.now lower.now upper.now → decision ≡ decision_of (word g) g → (s : ℕ) → s < g.states → get_or result s 0 ≡ planned (word g) g s }
 {
     match decision {
-        Decision::Yes(_) => winner_row(m, objective, turn, from, to, lower, upper, 1),
-        Decision::No => winner_row(m, objective, turn, from, to, lower, upper, 2),
+        Decision::Yes(_) => winner_row(board, lower, upper, 1),
+        Decision::No => winner_row(board, lower, upper, 2),
         Decision::Open => [NONE; Game::MAX_STATES],
     }
 }

@@ -1,4 +1,4 @@
-// The rows at work: marks, the search by them, and the writing of a lent row.
+// The marks at work, and the search by them.
 ghost use Rattle.std.specs.Prelude.{◌≡◌, ◌&&◌, ◌≤◌, length, get_or, leb};
 ghost use Rattle.game.specs.Limits.{max_states};
 ghost use Rattle.game.specs.Rows.{fill, zeros};
@@ -51,12 +51,4 @@ pub fn lowest_start(n: usize, starts: &[u8], marks: &[u16], wanted: u16) -> Opti
         }
     }
     None
-}
-
-// Writes the first n places of a row that is lent. The rest keep their content.
-pub fn write_row(n: usize, values: &[u16], out: &mut [u16])
-    requires { (n ≤ max_states) × (n ≤ length values.now) × (max_states ≤ length out.old) }
-    ensures { out.new ≡ fill n (λ s. get_or values.now s 0) out.old }
-{
-    out[..n].copy_from_slice(&values[..n]);
 }

@@ -1,11 +1,10 @@
 -- `solve_game` meets its contract.
 use mathlib.Core.Path.{refl, sym}
 use native.Mathlib.Omega.{arith}
-use Rattle.game.specs.Limits.{max_states}
 use Rattle.game.specs.Rows.{blank}
 use Rattle.file.proofs.Sound.{accepted_sound}
-use Rattle.chains.proofs.Filling.{filled, row_holds}
-use Rattle.solver.proofs.Rowed.{few-states_of, few-moves_of, read_apart}
+use Rattle.chains.proofs.Filling.{holds_zeros}
+use Rattle.solver.proofs.Rowed.{few-states_of, few-moves_of, read_rows, few-states, few-moves, froms, tos, presented}
 use Rattle.solver.proofs.solve_game.Goals as goal
 
 pub number_at-n-requires : goal.number_at-n-requires
@@ -32,24 +31,44 @@ pub prey_row-prey-requires : goal.prey_row-prey-requires
 unfolding blank
 prey_row-prey-requires c = few-states_of _ c.requires.accepted c.number_at-n.ensures
 
-pub solve_rows-requires : goal.solve_rows-requires
+pub link-requires : goal.link-requires
 unfolding blank
-solve_rows-requires c =
-    let few = few-states_of _ c.requires.accepted c.number_at-n.ensures in let short = few-moves_of _ c.requires.accepted c.number_at-m.ensures in
-    record {
-      apart = (
-        _,
-        read_apart _ c.requires.accepted c.number_at-n.ensures c.number_at-m.ensures c.number_at-objective.ensures c.hunting_side-side.ensures.0 c.hunting_side-side.ensures.1
-            (filled _ _ _ c.plain_states.ensures.turn few) (filled _ _ _ c.plain_states.ensures.marks few) (filled _ _ _ c.plain_states.ensures.block few)
-            (filled _ _ _ c.plain_moves.ensures.from short) (filled _ _ _ c.plain_moves.ensures.to short) (row_holds _ max_states few _ c.prey_row-prey.ensures),
-      );
-      room = c.requires.room;
-    }
+link-requires c =
+    let a = read_rows _ c.requires.accepted c.number_at-n.ensures c.number_at-m.ensures c.number_at-objective.ensures c.hunting_side-side.ensures
+    c.plain_states.ensures.turn c.plain_states.ensures.marks c.plain_states.ensures.block c.plain_moves.ensures.from c.plain_moves.ensures.to c.prey_row-prey.ensures in
+    (few-states a, few-moves a, tos a, few-moves a, holds_zeros (few-states a))
+
+pub count_keys-requires : goal.count_keys-requires
+unfolding blank
+count_keys-requires c =
+    let a = read_rows _ c.requires.accepted c.number_at-n.ensures c.number_at-m.ensures c.number_at-objective.ensures c.hunting_side-side.ensures
+    c.plain_states.ensures.turn c.plain_states.ensures.marks c.plain_states.ensures.block c.plain_moves.ensures.from c.plain_moves.ensures.to c.prey_row-prey.ensures in
+    (few-states a, few-moves a, froms a, holds_zeros (few-states a))
+
+pub need_row-requires : goal.need_row-requires
+unfolding blank
+need_row-requires c =
+    let a = read_rows _ c.requires.accepted c.number_at-n.ensures c.number_at-m.ensures c.number_at-objective.ensures c.hunting_side-side.ensures
+    c.plain_states.ensures.turn c.plain_states.ensures.marks c.plain_states.ensures.block c.plain_moves.ensures.from c.plain_moves.ensures.to c.prey_row-prey.ensures in
+    (few-states a, a.turn_is.long, c.count_keys.ensures.long)
+
+pub first_moves-requires : goal.first_moves-requires
+unfolding blank
+first_moves-requires c =
+    let a = read_rows _ c.requires.accepted c.number_at-n.ensures c.number_at-m.ensures c.number_at-objective.ensures c.hunting_side-side.ensures
+    c.plain_states.ensures.turn c.plain_states.ensures.marks c.plain_states.ensures.block c.plain_moves.ensures.from c.plain_moves.ensures.to c.prey_row-prey.ensures in
+    (few-states a, few-moves a, froms a, omega (arith, few-states a))
+
+pub run_and_hand_back-requires : goal.run_and_hand_back-requires
+unfolding blank
+run_and_hand_back-requires c =
+    let a = read_rows _ c.requires.accepted c.number_at-n.ensures c.number_at-m.ensures c.number_at-objective.ensures c.hunting_side-side.ensures
+    c.plain_states.ensures.turn c.plain_states.ensures.marks c.plain_states.ensures.block c.plain_moves.ensures.from c.plain_moves.ensures.to c.prey_row-prey.ensures in
+    record { present = (_, presented a c.link.ensures c.count_keys.ensures c.need_row.ensures c.first_moves.ensures); room = c.requires.room }
 
 pub returns : goal.returns
 unfolding blank
 returns c =
-    let few = few-states_of _ c.requires.accepted c.number_at-n.ensures in let short = few-moves_of _ c.requires.accepted c.number_at-m.ensures in
-    c.solve_rows.ensures _ (read_apart _ c.requires.accepted c.number_at-n.ensures c.number_at-m.ensures c.number_at-objective.ensures c.hunting_side-side.ensures.0 c.hunting_side-side.ensures.1
-    (filled _ _ _ c.plain_states.ensures.turn few) (filled _ _ _ c.plain_states.ensures.marks few) (filled _ _ _ c.plain_states.ensures.block few)
-    (filled _ _ _ c.plain_moves.ensures.from short) (filled _ _ _ c.plain_moves.ensures.to short) (row_holds _ max_states few _ c.prey_row-prey.ensures))
+    let a = read_rows _ c.requires.accepted c.number_at-n.ensures c.number_at-m.ensures c.number_at-objective.ensures c.hunting_side-side.ensures
+    c.plain_states.ensures.turn c.plain_states.ensures.marks c.plain_states.ensures.block c.plain_moves.ensures.from c.plain_moves.ensures.to c.prey_row-prey.ensures in
+    c.run_and_hand_back.ensures _ (presented a c.link.ensures c.count_keys.ensures c.need_row.ensures c.first_moves.ensures)
