@@ -16,9 +16,7 @@ pub fn clear(n: usize, row: &mut [u16])
     requires { n ≤ length row.old }
     ensures { Holds n row.new (λ _. 0) }
 {
-    for s in 0..n {
-        row[s] = 0;
-    }
+    row[..n].fill(0);
 }
 
 // How many of the first m keys name each place.
@@ -26,9 +24,8 @@ pub fn count_keys(n: usize, m: usize, key: &[u16], out: &mut [u16])
     requires { (n ≤ max_states) × (m ≤ max_moves) × Keys n m key.now × Holds n out.old (λ _. 0) }
     ensures { Holds n out.new (many_of m key.now) }
 {
-    for k in 0..m {
-        let c = key[k] as usize;
-        out[c] += 1;
+    for &c in &key[..m] {
+        out[c as usize] += 1;
     }
 }
 
@@ -85,10 +82,7 @@ pub fn relink(n: usize, b: usize, block: &[u16], before: &mut [u16]) -> Chain
 fn needed(own: bool, moves: u16) -> u16
     ensures { result ≡ cond own 1 moves }
 {
-    if own {
-        return 1;
-    }
-    moves
+    if own { 1 } else { moves }
 }
 
 // From the number of each state's moves, how many it needs.

@@ -17,7 +17,7 @@ use Rattle.growth.specs.Stamp.{pass_at, is_in, pass_no}
 use Rattle.chains.specs.Lent.{cell_at, last_below, Linked}
 use Rattle.growth.specs.Queue.{done, Listed, Alike, Joined}
 use Rattle.chains.proofs.Counts.{count_add, holds_store, holds_cong}
-use Rattle.chains.proofs.Chains.{last-le, last_is, onward, onward-first, onward_old, onward_new, onward-same, onward-last}
+use Rattle.chains.proofs.Chains.{last-le, last_is, onward, onward-first, onward_old, onward_new, onward-same}
 
 -- ## The queue
 
@@ -172,53 +172,15 @@ module _ {n : ℕ} {block last before : List ℕ} (linked : Linked n n block las
         alike = alike_store tail₀ queue queue₀ tail (at - 1) joining.joined.alike joining.joined.more;
       }))
 
-    -- all members are handled
-    pub join_ends : at ≤ 0 → Joined n (λ s. eqb b (get_or block s 0)) number row₀ queue₀ tail₀ row queue tail
-    join_ends none =
-        let z : at ≡ 0 = omega arith in
-        record {
-          stamped = holds_cong joining.joined.stamped (λ s _. ap (λ (x : Bool). pass_no (pass_at row₀ s) x number) (ap (λ (x : ℕ). onward block b x s) z ∙ onward-last block b s));
-          listed = joining.joined.listed;
-          more = joining.joined.more;
-          alike = joining.joined.alike;
-        }
-
 -- ## Where the numbers lie
 
--- the chain's end is read, a member is read and written, and there is room for one more in the queue
-pub record Start (last : List ℕ) (b : ℕ) : Type 0 where
-  pub few : b < 512
-  pub long : b < length last
-  pub low : get_or last b 0 ≤ 512
-
-pub record Member (before row : List ℕ) (at : ℕ) : Type 0 where
-  pub few : at ≤ 512
-  pub in_row : at - 1 < length row
-  pub in_chain : at - 1 < length before
-  pub less : get_or before (at - 1) 0 < at
-
+-- there is room for one more in the queue
 pub record Room (queue : List ℕ) (tail : ℕ) : Type 0 where
   pub few : tail < 512
   pub in_queue : tail < length queue
 
-module _ {n : ℕ} (few : n ≤ 512) {block last before : List ℕ} (linked : Linked n n block last before) {b : ℕ} where
-  pub chain_start : b < n → Start last b
-  chain_start l = record {
-    few = omega arith;
-    long = omega (arith, linked.lasts.long);
-    low = omega (arith, linked.lasts.cell b l, last-le (cell_at block) n b);
-  }
-
-  module _ {number : ℕ} {row₀ queue₀ : List ℕ} {tail₀ : ℕ} {row queue : List ℕ} {tail at : ℕ} (joining : Joining n block b number row₀ queue₀ tail₀ row queue tail at) (some_left : 0 < at) where
-    pub chain_member : Member before row at
-    chain_member = record {
-      few = omega (arith, joining.low);
-      in_row = omega (arith, joining.low, joining.joined.stamped.long);
-      in_chain = omega (arith, joining.low, linked.befores.long);
-      less = join_less linked joining some_left;
-    }
-
-    pub chain_room : get_or row (at - 1) 0 ≡ 0 → Room queue tail
-    chain_room out =
-        let free = queue_room n row queue tail (at - 1) 1 (omega (arith, joining.low)) joining.joined.stamped.long out (omega arith) joining.joined.listed in
-        record { few = omega arith; in_queue = omega (arith, joining.joined.listed.room) }
+module _ {n : ℕ} (few : n ≤ 512) {block : List ℕ} {b number : ℕ} {row₀ queue₀ : List ℕ} {tail₀ : ℕ} {row queue : List ℕ} {tail at : ℕ} (joining : Joining n block b number row₀ queue₀ tail₀ row queue tail at) where
+  pub chain_room : 0 < at → get_or row (at - 1) 0 ≡ 0 → Room queue tail
+  chain_room some_left out =
+      let free = queue_room n row queue tail (at - 1) 1 (omega (arith, joining.low)) joining.joined.stamped.long out (omega arith) joining.joined.listed in
+      record { few = omega arith; in_queue = omega (arith, joining.joined.listed.room) }

@@ -6,23 +6,15 @@ use Prim.Native.Nat.{ℕ, ◌+◌, ◌≤◌, ◌<◌}
 use native.Mathlib.Decide.{ℕ_discrete}
 use native.Mathlib.Omega.{arith}
 use lib.ListN.{length, get_or}
-use lib.Dec.{eqb, leb, ltb, le→leb, lt→ltb, ltb→lt}
+use lib.Dec.{eqb, ltb, lt→ltb, ltb→lt}
 use borrow.Author.Tests.{eq-eqb, ne_eqb}
 use Rattle.arena.specs.Sets.{Set}
 use Rattle.arena.proofs.Tests.{T_ext, is_true, is_false}
 use Rattle.growth.specs.Stamp.{pass_at, pass_no}
-use Rattle.chains.specs.Lent.{Keys}
 use Rattle.growth.specs.Queue.{Listed, Joined}
 use Rattle.chains.proofs.Counts.{holds_cong}
 use Rattle.growth.proofs.Queue.{pass_kept}
 use Rattle.growth.proofs.Moving.{pass_twice}
-
--- a block with some hits is ripe by its goal; r is what a call gave for the goal
-pub ripe-some : (hit goal r : ℕ) → (hit ≡ 0 → ⊥) → r ≡ goal → leb r hit ≡ (leb 1 hit && leb goal hit)
-ripe-some hit goal r ne e = rw (e, is_true (leb 1 hit) (le→leb 1 hit some)) refl
-  where
-    some : 1 ≤ hit
-    some = elim (ℕ_discrete hit 0) [ yes p ↦ absurd (ne p) | no p ↦ omega arith ]
 
 -- ## States that join
 
@@ -71,7 +63,7 @@ module _ (R : Set) (block : List ℕ) where
   and_no true = refl
   and_no false = refl
 
-  -- the first, the next, and the last
+  -- the first and the next
   pub below_none : (s : ℕ) → ripe_below R block 0 s ≡ false
   below_none s = rw (is_false (ltb (get_or block s 0) 0) (λ h. let z = ltb→lt (get_or block s 0) 0 h in absurd (omega arith))) (and_no (R (get_or block s 0)))
 
@@ -108,10 +100,3 @@ module _ (R : Set) (block : List ℕ) where
         | yes e ↦ rw e (rw raw refl)
         | no ne ↦ rw (others b c ne) refl
       ]
-
-  pub below_all : {n : ℕ} → Keys n n block → (b : ℕ) → n ≤ b → (s : ℕ) → s < n → ripe_below R block b s ≡ R (get_or block s 0)
-  below_all {n} keys b h s l = rw (is_true (ltb (get_or block s 0) b) (lt→ltb (get_or block s 0) b (omega (arith, keys.below s l)))) (and_yes (R (get_or block s 0)))
-    where
-      and_yes : (x : Bool) → (x && true) ≡ x
-      and_yes true = refl
-      and_yes false = refl

@@ -5,7 +5,7 @@ use mathlib.Core.List.{List}
 use Prim.Native.Nat.{ℕ, suc, ◌+◌, ◌-◌, ◌*◌, ◌≤◌, ◌<◌}
 use native.Mathlib.Decide.{ℕ_discrete}
 use native.Mathlib.Omega.{arith}
-use lib.ListN.{length, get_or, set, length-set}
+use lib.ListN.{length, get_or, set}
 use mir.Syntax.{w16, w64}
 use mir.Val.{Fits}
 use lib.Dec.{eqb}
@@ -91,18 +91,10 @@ module _ (m : ℕ) (from to : List ℕ) (q : ℕ) (order : List ℕ) (c : ℕ) w
 
 -- ## The numbers of a turn
 
--- a row in which one more is counted is as long
-pub longer : (row : List ℕ) (i : ℕ) {k : ℕ} → length row ≡ k → length (set row i (get_or row i 0 + 1)) ≡ k
-longer row i e = length-set row i (get_or row i 0 + 1) ∙ e
-
 -- the walk's first reads
-pub record Begin (last queue : List ℕ) (q : ℕ) : Type 0 where
+pub record Begin (queue : List ℕ) (q : ℕ) : Type 0 where
   pub place_offset : Fits w64 (q * 2)
   pub place : q < length queue
-  pub state_fits : Fits w64 (get_or queue q 0)
-  pub state_offset : Fits w64 (get_or queue q 0 * 2)
-  pub in_last : get_or queue q 0 < length last
-  pub last_fits : Fits w64 (get_or last (get_or queue q 0) 0)
 
 -- move `at - 1` into the state, the state that it leaves, and that one's block
 pub record Turn (w : Net) (before have hit : List ℕ) (at : ℕ) : Type 0 where
@@ -127,17 +119,12 @@ pub record Turn (w : Net) (before have hit : List ℕ) (at : ℕ) : Type 0 where
   pub in_size : get_or w.block (get_or w.from (at - 1) 0) 0 < length w.size
 
 module _ {w : Net} (sound : Sound w) {last before : List ℕ} (linked : Linked w.states w.moves w.to last before) {old : ℕ → ℕ} {number : ℕ} where
-  pub beginning : (q : ℕ) {have hit row queue : List ℕ} {tail : ℕ} → q < tail → Handled w old number q queue have hit row queue tail → Begin last queue q
+  pub beginning : (q : ℕ) {have hit row queue : List ℕ} {tail : ℕ} → q < tail → Handled w old number q queue have hit row queue tail → Begin queue q
   beginning q {row = row} {queue = queue} {tail = tail} l work =
       let few = count-le w.states (is_in row) in
-      let state = work.listed.states q l in
       record {
         place_offset = omega (arith, work.listed.as_many, sound.few-states);
         place = omega (arith, work.listed.room, work.listed.as_many);
-        state_fits = omega (arith, sound.few-states);
-        state_offset = omega (arith, sound.few-states);
-        in_last = omega (arith, linked.lasts.long);
-        last_fits = omega (arith, linked.lasts.cell (get_or queue q 0) state, last-le (cell_at w.to) w.moves (get_or queue q 0), sound.few-moves);
       }
 
   -- it begins at the last move into the state

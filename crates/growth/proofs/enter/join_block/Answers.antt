@@ -2,7 +2,7 @@
 use mathlib.Core.Path.{refl}
 use native.Mathlib.Omega.{arith}
 use lib.ListN.{length-set}
-use Rattle.growth.proofs.Queue.{join_begins, join_skip, join_take, chain_member, chain_room}
+use Rattle.growth.proofs.Queue.{join_begins, join_skip, join_take, join_less, chain_room}
 use Rattle.growth.proofs.enter.join_block.Goals as goal
 use Rattle.growth.proofs.enter.join_block.Goals.{then-row-s-eq0, else-row-s-eq0}
 
@@ -10,16 +10,16 @@ pub loop-at-init : goal.loop-at-init
 loop-at-init c = (join_begins c.requires.3 c.requires.1 c.requires.4 c.requires.5, refl, refl, refl, refl)
 
 pub offset_bounds-growth-growth : goal.offset_bounds-growth-growth
-offset_bounds-growth-growth c = let r = chain_room c.requires.0 c.requires.3 c.loop-at.invariant.0 c.loop-at-test.true c.if-row-s-eq0.true in omega arith
+offset_bounds-growth-growth c = let r = chain_room c.requires.0 c.loop-at.invariant.0 c.loop-at-test.true c.if-row-s-eq0.true in omega arith
 
 pub bounds-growth-growth : goal.bounds-growth-growth
-bounds-growth-growth c = let r = chain_room c.requires.0 c.requires.3 c.loop-at.invariant.0 c.loop-at-test.true c.if-row-s-eq0.true in omega arith
+bounds-growth-growth c = let r = chain_room c.requires.0 c.loop-at.invariant.0 c.loop-at-test.true c.if-row-s-eq0.true in omega arith
 
 pub overflow_add-growth : goal.overflow_add-growth
-overflow_add-growth c = let r = chain_room c.requires.0 c.requires.3 c.loop-at.invariant.0 c.loop-at-test.true c.if-row-s-eq0.true in omega arith
+overflow_add-growth c = let r = chain_room c.requires.0 c.loop-at.invariant.0 c.loop-at-test.true c.if-row-s-eq0.true in omega arith
 
 pub loop-at-smaller : goal.loop-at-smaller
-loop-at-smaller c = let k = chain_member c.requires.0 c.requires.3 c.loop-at.invariant.0 c.loop-at-test.true in omega arith
+loop-at-smaller c = join_less c.requires.3 c.loop-at.invariant.0 c.loop-at-test.true
 
 pub loop-at-preserved : goal.loop-at-preserved
 loop-at-preserved c =
