@@ -1,19 +1,22 @@
 -- Laws of the log of splits: it begins empty, each split adds a line, and its last line undoes the last split.
-use Prim.Native.Nat.{ℕ, zero, suc, ◌+◌, ◌<◌, zero-le}
+use Prim.Native.Nat.{ℕ, zero, suc, ◌+◌, ◌≤◌, ◌<◌, zero-le}
 use mathlib.Core.Path.{◌≡◌, refl, sym, ap, ◌∙◌}
 use mathlib.Core.Bool.{cond}
-use mathlib.Core.List.{List}
+use mathlib.Core.List.{List, ◌++◌}
 use mathlib.Core.Logic.{inl, inr}
 use native.Mathlib.Nat.{not-suc-le-zero}
 use native.Mathlib.Omega.{arith}
-use lib.ListN.{length, get_or, set, length-set}
+use lib.ListN.{length, get_or, set, take, drop, length-set, length-append, get_or-append}
 use lib.Seq.{get_or-set_same, get_or-set_other}
 use lib.Dec.{eqb}
+use Rattle.std.proofs.lemmas.List.{get_or-take, length-take-le}
 use Rattle.arena.specs.Sets.{least}
 use Rattle.arena.proofs.Sets.{lt_suc_cases}
+use Rattle.game.specs.Rows.{fill}
 use Rattle.game.specs.Game.{block_at}
 use Rattle.game.specs.Accepted.{AcceptedGame}
 use Rattle.game.specs.declared.Game.{Game}
+use Rattle.game.proofs.Rows.{fill_at}
 use Rattle.blocks.specs.Parts.{apart}
 use Rattle.chains.specs.Lent.{Holds}
 use Rattle.runs.specs.Run.{into_known_states, Choice, lowest_first, split_game, round}
@@ -73,3 +76,13 @@ log-undo log i k e l was is = record {
   long = is.long;
   cell = λ s m. is.cell s m ∙ rw (was.cell s m, e) (sym (log.undo i l s m));
 }
+
+-- a row whose first n places are changed, each by the value that it had
+pub front_changed : (h : ℕ → ℕ) (n k : ℕ) (old : List ℕ) {front : List ℕ} → n ≤ length old → front ≡ fill k (λ t. h (get_or (take n old) t 0)) (take n old) → length front ≡ length (take n old) → n ≤ k
+    → Holds n (front ++ drop n old) (λ s. h (get_or old s 0))
+front_changed h n k old {front} l e same m =
+    let long : length front ≡ n = same ∙ length-take-le n old l in
+    record {
+      long = rw length-append (omega arith);
+      cell = λ s b. get_or-append front (drop n old) 0 s (omega arith) ∙ rw e (fill_at k (λ t. h (get_or (take n old) t 0)) (take n old) s (omega arith)) ∙ ap h (get_or-take n old s 0 b);
+    }

@@ -7,25 +7,20 @@ ghost use Rattle.chains.specs.Lent.{Holds};
 ghost use Rattle.runs.specs.Run.{lowest_first, round};
 ghost use Rattle.runs.specs.Grouped.{Logged};
 
-// The block before a split: its parent for one that the split named, and itself for any other.
-fn block_before(own: u16, name: u16, parent: u16) -> u16
-    ensures { result ≡ cond (eqb own name) parent own }
-{
-    if own == name { parent } else { own }
-}
-
 // Undoes one split, of block `parent`, by which a part of it got this name.
 fn undo_split(n: usize, parent: u16, name: u16, block: &mut [u16])
     requires { (n ≤ max_states) × (n ≤ length block.old) }
     ensures { Holds n block.new (λ s. cond (eqb (get_or block.old s 0) name) parent (get_or block.old s 0)) }
 {
-    for s in 0..n {
-        block[s] = block_before(block[s], name, parent);
+    for own in &mut block[..n] {
+        if *own == name {
+            *own = parent;
+        }
     }
 }
 
 // The splits of a run, and how many there are: split i was of block parents[i], and the part without that state got the name
-// names[i]. The rows are lent, since the programs keep no heap.
+// names[i]. They are two rows, since `Log` says of each what it holds; they are lent, since the programs keep no heap.
 #[derive(Drop)]
 pub struct SplitLog<'a> {
     pub parents: &'a mut [u16],

@@ -1,23 +1,32 @@
 -- `undo_split` meets its contract: the places passed have the blocks before the split, the others those after it.
-use mathlib.Core.Path.{refl}
+use Prim.Native.Nat.{ℕ}
+use mathlib.Core.Path.{◌≡◌, refl, ◌∙◌}
 use mathlib.Core.Bool.{cond}
 use native.Mathlib.Omega.{arith}
-use lib.ListN.{length-set}
+use lib.ListN.{length, take}
 use lib.Dec.{eqb}
-use Rattle.game.proofs.Rows.{fill_none, fill_done}
-use Rattle.chains.proofs.Filling.{places, filled, change_more}
+use borrow.Author.Tests.{eq-eqb, ne_eqb}
+use Rattle.std.proofs.lemmas.List.{length-take-le}
+use Rattle.game.proofs.Rows.{fill_none}
+use Rattle.chains.proofs.Filling.{change_more}
+use Rattle.runs.proofs.Undone.{front_changed}
 use Rattle.runs.proofs.log.undo_split.Goals as goal
+use Rattle.runs.proofs.log.undo_split.Goals.{then-own-name, else-own-name}
 
-pub loop-s-init : goal.loop-s-init
-loop-s-init c = (search places, fill_none _ _, refl)
+pub loop-own-init : goal.loop-own-init
+loop-own-init c = fill_none _ _
 
-pub loop-s-preserved : goal.loop-s-preserved
-loop-s-preserved c =
-    let inv = c.loop-s.invariant in (
-      search places,
-      change_more (λ _ v. cond (eqb v c.args.name) c.args.parent v) c.loop-s.s c.args.block.now (omega arith) inv.1 _ c.block_before.ensures,
-      simp length-set inv.2,
-    )
+pub loop-own-preserved : goal.loop-own-preserved
+loop-own-preserved c =
+    let k = c.loop-own.own-index in
+    let old = take c.args.n c.args.block.now in
+    let h : ℕ → ℕ → ℕ = λ _ v. cond (eqb v c.args.name) c.args.parent v in
+    elim c.if-own-name.branch [
+      | then-own-name w ↦ w.own-items-is ∙ change_more h k old (omega arith) c.loop-own.invariant _ (rw (eq-eqb _ _ w.if-own-name.true) refl)
+      | else-own-name w ↦ w.own-items-is ∙ change_more h k old (omega arith) c.loop-own.invariant _ (rw (ne_eqb _ _ w.if-own-name.false) refl)
+    ]
 
 pub returns : goal.returns
-returns c = filled _ _ c.args.block.now (fill_done _ _ _ _ _ c.loop-s.invariant.1 (omega arith) (omega arith)) (omega arith)
+returns c =
+    let few : length (take c.args.n c.args.block.now) ≡ c.args.n = length-take-le c.args.n c.args.block.now c.requires.1 in
+    front_changed (λ v. cond (eqb v c.args.name) c.args.parent v) c.args.n c.loop-own.own-index c.args.block.now c.requires.1 c.loop-own.invariant c.loop-own.auto.own-items (omega arith)
