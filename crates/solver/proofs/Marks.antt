@@ -1,21 +1,29 @@
 -- What the rows at work say in 01's words: the marks, and the decision.
-use mathlib.Core.Path.{◌≡◌, refl, sym, ap, subst, ◌∙◌}
+use mathlib.Core.Path.{◌≡◌, refl, sym, ap, ap₂, subst, ◌∙◌}
 use mathlib.Core.Bool.{Bool, true, false, not, ◌&&◌, cond, true≢false}
 use mathlib.Core.List.{List}
-use Prim.Native.Nat.{ℕ, ◌<◌}
+use mathlib.Core.Logic.{⊎_elim}
+use Prim.Native.Nat.{ℕ, ◌≤◌, ◌<◌}
 use native.Mathlib.Nat.{le_refl}
 use native.Mathlib.Omega.{arith}
-use lib.ListN.{get_or}
-use lib.Dec.{eqb, leb}
-use borrow.Author.Tests.{eq-eqb, ne_eqb}
+use lib.ListN.{length, get_or, take}
+use lib.Dec.{eqb, leb, ltb}
+use borrow.Author.Tests.{eq-eqb, ne_eqb, lt-ltb}
+use Rattle.arena.proofs.Loops.{le_or_lt}
 use Rattle.std.specs.Prelude.{Some, None}
 use Rattle.std.specs.Option.{is_some}
+use Rattle.std.specs.List.{position, position_or_len, zip}
+use Rattle.std.proofs.lemmas.List.{get_or-take, length-take-le}
+use Rattle.std.proofs.lemmas.List.Recursion.{is_position_or_len}
+use Rattle.std.proofs.lemmas.List.Quantifiers.{position-Some}
+use Rattle.std.proofs.lemmas.List.Sums.{prefix_len-le-length}
+use Rattle.std.proofs.lemmas.Slice.Zip.{get_or-zip, length-zip}
 use Rattle.arena.specs.Sets.{Set, some, least}
 use Rattle.arena.specs.Arena.{Arena}
 use Rattle.arena.specs.Win.{Goal, to_reach, to_stay}
 use Rattle.arena.proofs.Tests.{not-not, is_true, holds}
 use Rattle.arena.proofs.Least.{least-none, least-done, least_cong}
-use Rattle.game.specs.Game.{state_no, marks_at, block_at, initials, targets}
+use Rattle.game.specs.Game.{state_no, marked, marks_at, block_at, initials, targets}
 use Rattle.game.specs.Published.{goal_of, arena_of}
 use Rattle.game.specs.declared.StateNo.{StateNo}
 use Rattle.game.specs.declared.Game.{Game}
@@ -160,16 +168,63 @@ module _ (g : Game) (starts marks : List ℕ) (starts-are : (s : ℕ) → s < g.
       go true true = refl
       go true false = refl
 
+-- ## The start that a search gave
+
+-- the lowest place of a list that passes is the lowest member of those that do
+least_place : {A : Type 0} (p : A → Bool) (d : A) (xs : List A) → least (length xs) (λ s. p (get_or xs s d)) ≡ position_or_len p xs
+unfolding least
+least_place p d = is_position_or_len (λ xs. least (length xs) (λ s. p (get_or xs s d))) p refl (λ x xs. ap (cond (p x) 0) (omega arith))
+
+module _ (n : ℕ) (starts marks : List ℕ) (wanted : ℕ) (l : n ≤ length starts) (m : n ≤ length marks) where
+  abbrev fits : ℕ × ℕ → Bool
+  fits p = marked 1 p.0 && leb wanted p.1
+
+  abbrev pairs : List (ℕ × ℕ)
+  pairs = zip (take n starts) (take n marks)
+
+  places : length pairs ≡ n
+  places = length-zip (take n starts) (take n marks) ∙ rw (length-take-le n starts l, length-take-le n marks m) (omega arith)
+
+  place_is : position_or_len fits pairs ≡ lowest_start n starts marks wanted
+  place_is =
+      let one : length (take n starts) ≡ n = length-take-le n starts l in
+      let two : length (take n marks) ≡ n = length-take-le n marks m in
+      sym (least_place fits (0, 0) pairs)
+      ∙ ap (λ (k : ℕ). least k (λ s. fits (get_or pairs s (0, 0)))) places
+      ∙ least_cong n _ _ (λ s b. ap fits (get_or-zip (take n starts) (take n marks) s (0, 0) (omega arith) (omega arith) ∙ ap₂ (λ x y. (x, y)) (get_or-take n starts s 0 b) (get_or-take n marks s 0 b)))
+
+  -- a search through both rows finds no place
+  pub found-none : None ≡ position fits pairs → None ≡ start_found n starts marks wanted
+  found-none = go (ltb (position_or_len fits pairs) (length pairs)) refl
+    where
+      go : (b : Bool) → ltb (position_or_len fits pairs) (length pairs) ≡ b → None ≡ cond b (Some (position_or_len fits pairs)) None → None ≡ start_found n starts marks wanted
+      go true e q = let z : ◌≡◌ {A = ℕ} 0 1 = cc in absurd (omega arith)
+      go false e q =
+          let most = prefix_len-le-length (λ p. not (fits p)) pairs in
+          let last : lowest_start n starts marks wanted ≡ n = omega (arith, place_is, places, most, not-below e) in
+          rw (eq-eqb (lowest_start n starts marks wanted) n last) refl
+        where
+          not-below : ltb (position_or_len fits pairs) (length pairs) ≡ false → length pairs ≤ position_or_len fits pairs
+          not-below e = ⊎_elim (λ (h : length pairs ≤ position_or_len fits pairs). h)
+              (λ (h : position_or_len fits pairs < length pairs). absurd (true≢false (sym (lt-ltb _ _ h) ∙ e)))
+              (le_or_lt (length pairs) (position_or_len fits pairs))
+
+  -- it finds one
+  pub found_start : (i : ℕ) → Some i ≡ position fits pairs → (i < n) × (Some (state_no i) ≡ start_found n starts marks wanted)
+  found_start i q =
+      let found = position-Some fits pairs i (0, 0) (sym q) in
+      let is : i ≡ lowest_start n starts marks wanted = go (ltb (position_or_len fits pairs) (length pairs)) q ∙ place_is in (
+        omega (arith, found.0, places),
+        rw (ne_eqb (lowest_start n starts marks wanted) n (λ e. omega (arith, e, is, found.0, places)), is) refl,
+      )
+    where
+      go : (b : Bool) → Some i ≡ cond b (Some (position_or_len fits pairs)) None → i ≡ position_or_len fits pairs
+      go true q = cc
+      go false q = let z : ◌≡◌ {A = ℕ} 0 1 = cc in absurd (omega arith)
+
 -- ## The decision, from what two searches gave
 
 module _ (n : ℕ) (starts marks : List ℕ) where
-  module _ (wanted : ℕ) where
-    pub found-none : n ≡ lowest_start n starts marks wanted → None ≡ start_found n starts marks wanted
-    found-none e = rw (eq-eqb (lowest_start n starts marks wanted) n (sym e)) refl
-
-    pub found_start : (s : ℕ) → s < n → s ≡ lowest_start n starts marks wanted → Some (state_no s) ≡ start_found n starts marks wanted
-    found_start s l e = rw (ne_eqb (lowest_start n starts marks wanted) n (λ q. omega (arith, q, e)), e) refl
-
   -- no start is at least open
   pub decided_no : is_some (start_found n starts marks 1) ≡ false → No ≡ decision_by n starts marks
   unfolding decision_by

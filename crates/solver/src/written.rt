@@ -1,5 +1,6 @@
 // The marks at work, and the search by them.
 ghost use Rattle.std.specs.Prelude.{◌≡◌, ◌&&◌, ◌≤◌, length, get_or, leb};
+ghost use Rattle.std.specs.List.{position, zip};
 ghost use Rattle.game.specs.Limits.{max_states};
 ghost use Rattle.game.specs.Rows.{fill, zeros};
 ghost use Rattle.game.specs.Game.{marked};
@@ -40,15 +41,21 @@ fn is_start(marks: u8, mark: u16, wanted: u16) -> bool
     has_mark(1, marks) && wanted <= mark
 }
 
+// The place of the first initial state with at least this mark.
+fn first_start(starts: &[u8], marks: &[u16], wanted: u16) -> Option<usize>
+    ensures { result ≡ position (λ p. marked 1 p.0 && leb wanted p.1) (zip starts.now marks.now) }
+{
+    starts
+        .iter()
+        .zip(marks)
+        .position(|(start, mark)| is_start(*start, *mark, wanted))
+}
+
 // The lowest-numbered initial state with at least this mark, if there is one.
 pub fn lowest_start(n: usize, starts: &[u8], marks: &[u16], wanted: u16) -> Option<StateNo>
     requires { (n ≤ max_states) × (n ≤ length starts.now) × (n ≤ length marks.now) }
     ensures { result ≡ start_found n starts.now marks.now wanted }
 {
-    for s in 0..n {
-        if is_start(starts[s], marks[s], wanted) {
-            return Some(StateNo(s as u16));
-        }
-    }
-    None
+    let place = first_start(&starts[..n], &marks[..n], wanted)?;
+    Some(StateNo(place as u16))
 }
