@@ -1,5 +1,19 @@
-// Bytes, as they are printed.
+// What the exchange answers, and bytes, as they are printed.
+use file::Refusal;
 use std::fmt;
+
+// The length that the exchange wrote, or its refusal.
+#[derive(Clone, Copy)]
+pub struct Exchanged(pub Result<usize, Refusal>);
+
+impl fmt::Display for Exchanged {
+    fn fmt<W: fmt::Write>(&self, f: &mut fmt::Formatter<W>) -> fmt::Result {
+        match self.0 {
+            Ok(length) => write!(f, "{length}"),
+            Err(refusal) => write!(f, "REFUSED {refusal}"),
+        }
+    }
+}
 
 // Up to 512 bytes are printed in full, two hexadecimal digits each, more by their sums.
 #[derive(Clone, Copy)]

@@ -1,10 +1,11 @@
 // The sheet: a line for each case has its name, a colon, a space, and the file's bytes as hexadecimal digits.
 use crate::show;
 use input::{FILE_ROOM, filled};
-use sheet_lines::{fitting, read_digits};
+use sheet_lines::{name_and_rest, read_digits};
 use std::io;
 use std::io::Write;
 
+// Both sheet programs have this loop: a shared one would take a closure, and is no plainer.
 pub fn each_line<W: Write>(to: &mut W, text: &[u8]) -> io::Result<()> {
     for line in text.split_inclusive(|byte| *byte == b'\n') {
         run_line(to, line.strip_suffix(b"\n").unwrap_or(line))?;
@@ -13,13 +14,8 @@ pub fn each_line<W: Write>(to: &mut W, text: &[u8]) -> io::Result<()> {
 }
 
 fn run_line<W: Write>(to: &mut W, line: &[u8]) -> io::Result<()> {
-    let colon = line
-        .iter()
-        .position(|byte| *byte == b':')
-        .unwrap_or(line.len());
-    let (name, rest) = line.split_at(colon);
+    let (name, digits) = name_and_rest(line);
     to.write_all(name)?;
-    let digits = &rest[fitting(2, rest)..];
     let mut file = filled::<u8, FILE_ROOM>(0);
     show::answers(to, read_digits(digits, &mut file))
 }

@@ -1,5 +1,5 @@
 // The rest of a case's line: what the decoder and the exchange make of a file.
-use crate::print::Bytes;
+use crate::print::{Bytes, Exchanged};
 use file::Refusal;
 use input::{FILE_ROOM, filled};
 use sheet_lines::{fitting, is_blank};
@@ -32,9 +32,9 @@ fn accepted<W: Write>(to: &mut W, file: &[u8], states: usize, moves: usize) -> i
     let mut room = filled::<u8, FILE_ROOM>(BLANK);
     let size = fitting(file.len(), &room);
     let exchanged = &mut room[..size];
-    written(to, exchange::exchange(file, exchanged))?;
+    let answer = Exchanged(exchange::exchange(file, exchanged));
     let bytes = Bytes(exchanged);
-    write!(to, " {bytes}; again ")?;
+    write!(to, "{answer} {bytes}; again ")?;
     against(to, exchanged, file, 0)?;
     write!(to, "; one short ")?;
     untouched(to, file, file.len().saturating_sub(1))?;
@@ -48,14 +48,14 @@ fn against<W: Write>(to: &mut W, file: &[u8], expected: &[u8], spare: u8) -> io:
     let mut room = filled::<u8, FILE_ROOM>(BLANK);
     let size = fitting(expected.len() + usize::from(spare), &room);
     let out = &mut room[..size];
-    written(to, exchange::exchange(file, out))?;
+    let answer = Exchanged(exchange::exchange(file, out));
     let kept = if out.starts_with(expected) {
         "same"
     } else {
         "DIFFERENT"
     };
     let rest = touch(out, expected.len());
-    write!(to, ", {kept}, rest {rest}")
+    write!(to, "{answer}, {kept}, rest {rest}")
 }
 
 // Exchanges `file` into an output of this size, and prints the answer and whether the output is untouched.
@@ -63,9 +63,9 @@ fn untouched<W: Write>(to: &mut W, file: &[u8], size: usize) -> io::Result<()> {
     let mut room = filled::<u8, FILE_ROOM>(BLANK);
     let size = fitting(size, &room);
     let out = &mut room[..size];
-    written(to, exchange::exchange(file, out))?;
+    let answer = Exchanged(exchange::exchange(file, out));
     let all = touch(out, 0);
-    write!(to, ", {all}")
+    write!(to, "{answer}, {all}")
 }
 
 // Says whether every place from `from` on is untouched.
@@ -74,12 +74,5 @@ fn touch(out: &[u8], from: usize) -> &'static str {
         "untouched"
     } else {
         "TOUCHED"
-    }
-}
-
-fn written<W: Write>(to: &mut W, answer: Result<usize, Refusal>) -> io::Result<()> {
-    match answer {
-        Ok(length) => write!(to, "{length}"),
-        Err(refusal) => write!(to, "REFUSED {refusal}"),
     }
 }

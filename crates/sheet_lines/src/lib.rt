@@ -1,7 +1,7 @@
 // Reading the lines of a sheet of cases, for the programs that run one.
 #![tactic(auto)]
 
-ghost use Rattle.std.specs.Prelude.{◌≡◌, ◌≤◌, ◌<◌, length, take, drop};
+ghost use Rattle.std.specs.Prelude.{◌≡◌, ◌≢◌, ◌+◌, ◌≤◌, ◌<◌, All, Some, length, take, drop, slice_get};
 ghost use Rattle.std.specs.List.{list_all};
 ghost use Rattle.sheet_lines.specs.Digits.{digit_value, with_digit, number};
 
@@ -23,6 +23,20 @@ pub fn is_blank<T: PartialEq>(row: &[T], from: usize, blank: &T) -> bool
     row.iter().skip(from).all(|place| place == blank)
 }
 
+// The name of a line, which ends at the first colon or with the line, and what stands behind the colon and a space.
+pub fn name_and_rest(line: &[u8]) -> (&[u8], &[u8])
+    ensures name { result.0.now ≡ take (length result.0.now) line.now }
+    ensures no_colon { All (λ byte. byte ≢ 58) result.0.now }
+    ensures colon { length result.0.now < length line.now → slice_get line.now (length result.0.now) ≡ Some 58 }
+    ensures rest { result.1.now ≡ drop (length result.0.now + 2) line.now }
+{
+    let colon = line
+        .iter()
+        .position(|byte| *byte == b':')
+        .unwrap_or(line.len());
+    (&line[..colon], line.get(colon + 2..).unwrap_or(&[]))
+}
+
 // The number that decimal digits spell, as a remainder by 65536.
 pub fn number(digits: &[u8]) -> u16
     ensures { result ≡ number digits.now }
@@ -35,7 +49,7 @@ pub fn number(digits: &[u8]) -> u16
 fn with_digit(value: u16, byte: u8) -> u16
     ensures { result ≡ with_digit value byte }
 {
-    ((u32::from(value) * 10 + u32::from(digit(byte))) % 65536) as u16
+    value.wrapping_mul(10).wrapping_add(u16::from(digit(byte)))
 }
 
 // Puts the bytes that hexadecimal digits spell at the start of `file`, and gives those. A last digit without a partner is left

@@ -3,10 +3,11 @@
 use crate::show;
 use crate::show::Places;
 use input::{FILE_ROOM, filled};
-use sheet_lines::{fitting, number, read_digits};
+use sheet_lines::{name_and_rest, number, read_digits};
 use std::io;
 use std::io::Write;
 
+// Both sheet programs have this loop: a shared one would take a closure, and is no plainer.
 pub fn each_line<W: Write>(to: &mut W, text: &[u8]) -> io::Result<()> {
     for line in text.split_inclusive(|byte| *byte == b'\n') {
         run_line(to, line.strip_suffix(b"\n").unwrap_or(line))?;
@@ -15,14 +16,10 @@ pub fn each_line<W: Write>(to: &mut W, text: &[u8]) -> io::Result<()> {
 }
 
 fn run_line<W: Write>(to: &mut W, line: &[u8]) -> io::Result<()> {
-    let colon = line
-        .iter()
-        .position(|byte| *byte == b':')
-        .unwrap_or(line.len());
-    let (name, rest) = line.split_at(colon);
+    let (name, rest) = name_and_rest(line);
     to.write_all(name)?;
     writeln!(to)?;
-    let mut fields = rest[fitting(2, rest)..].splitn(5, |byte| *byte == b' ');
+    let mut fields = rest.splitn(5, |byte| *byte == b' ');
     let allowance = fields.next().map_or(0, number);
     let places = Places {
         marks: fields.next().map_or(0, number),
