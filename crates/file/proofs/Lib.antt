@@ -2,3 +2,4 @@ pub mod Numbers
 pub mod Laws
 pub mod Sound
 pub mod Mixed
+pub mod Told

@@ -5,9 +5,9 @@ use mathlib.Core.List.{List}
 use Prim.Native.Nat.{ℕ, ◌<◌}
 use native.Mathlib.Omega.{arith}
 use lib.Dec.{T, T_not, eqb, eqb→eq}
-use borrow.Author.Tests.{eq-eqb, not-false}
+use borrow.Author.Tests.{eq-eqb}
 use Rattle.arena.specs.Sets.{Set, compl}
-use Rattle.arena.proofs.Tests.{is_false, holds, beq_refl, beq→eq, opposite}
+use Rattle.arena.proofs.Tests.{is_false, holds, beq_refl, opposite}
 use Rattle.arena.proofs.Sets.{meets-out}
 use Rattle.arena.proofs.Loops.{some_found}
 use Rattle.file.specs.Layout.{states, block}
@@ -17,9 +17,6 @@ use Rattle.file.specs.Sound.{Sound}
 -- what `x != y` says of two Bools
 pub beq_apart : (x y : Bool) → not (beq x y) ≡ true → x ≡ y → ⊥
 beq_apart x y h e = T_not (beq x y) (holds _ h) (rw e (beq_refl y))
-
-pub beq_same : (x y : Bool) → not (beq x y) ≡ false → x ≡ y
-beq_same x y h = beq→eq x y (holds _ (not-false (beq x y) h))
 
 module _ (f : List ℕ) (X : Set) where
   -- members s and t of block b, one in X and one not

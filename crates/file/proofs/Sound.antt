@@ -1,5 +1,5 @@
 -- A file whose records have no fault is sound, and what the code reads of a sound file.
-use mathlib.Core.Path.{◌≡◌, refl, sym, ap, ◌∙◌}
+use mathlib.Core.Path.{◌≡◌, refl, sym, ◌∙◌}
 use mathlib.Core.Bool.{Bool, true, false, ◌&&◌}
 use mathlib.Core.List.{List}
 use Prim.Native.Nat.{ℕ, ◌+◌, ◌-◌, ◌*◌, ◌≤◌, ◌<◌}
@@ -12,10 +12,10 @@ use Rattle.arena.proofs.Tests.{is_true, holds, and_l, and_r}
 use Rattle.game.specs.Limits.{max_states, max_moves}
 use Rattle.game.specs.Game.{within, known_objective, known_turn}
 use Rattle.file.specs.Fault.{lowest}
-use Rattle.file.specs.Layout.{number_at, states, moves, objective, turn, marks, block, move_at, from, to}
+use Rattle.file.specs.Layout.{Counted, states, moves, objective, turn, marks, block, move_at, from, to}
 use Rattle.file.specs.Refusals.{head_fields, head_fault, state_fields, state_fault, ascends, move_fields, move_fault, initial, target, moved, mixed, block_fault, whole_fault, refusal}
 use Rattle.file.specs.Sound.{Sound}
-use Rattle.file.proofs.Laws.{then_zero, unless-zero, frame-long, lowest-zero}
+use Rattle.file.proofs.Laws.{then_zero, unless-zero, frame-whole, lowest-zero}
 
 -- both parts of a passed test
 pub and_first : (a b : Bool) → (a && b) ≡ true → a ≡ true
@@ -41,17 +41,20 @@ head_links f e =
     let b = then_zero _ _ a.1 in
     (unless-zero _ 4 tt a.0, unless-zero _ 4 tt b.0, unless-zero _ 4 tt b.1)
 
--- e is what a call gave
-module _ (f : List ℕ) (e : ℕ) (p : e ≡ head_fault f) (q : e ≡ 0) where
+module _ (f : List ℕ) (p : 0 ≡ head_fault f) where
   pub head_long : 10 ≤ length f
   unfolding head_fault
-  head_long = frame-long f 0 8 1 0 (sym (then_zero _ _ (sym p ∙ q)).0) refl
+  head_long = frame-whole f 0 8 1 (sym (then_zero _ _ (sym p)).0)
 
-  pub few-states : states f ≤ max_states
-  few-states = within_high 1 max_states _ (head_links f (sym p ∙ q)).0
-
-  pub few-moves : moves f ≤ max_moves
-  few-moves = within_high 1 max_moves _ (head_links f (sym p ∙ q)).1
+  -- the numbers that it says are within the limits
+  pub counted : (n m : ℕ) → n ≡ states f → m ≡ moves f → Counted f n m
+  counted n m q r =
+      record {
+        states-said = q;
+        moves-said = r;
+        few-states = rw q (within_high 1 max_states _ (head_links f (sym p)).0);
+        few-moves = rw r (within_high 1 max_moves _ (head_links f (sym p)).1);
+      }
 
 -- ## What records without a fault say
 
@@ -81,7 +84,7 @@ module _ (f : List ℕ) (head : head_fault f ≡ 0) (ss : lowest (states f) (sta
   all-long =
       let some : 1 ≤ moves f = within_low 1 max_moves _ (head_links f head).1 in
       let last = lowest-zero (moves f) (move_fault f) ms (moves f - 1) (omega arith) in
-      omega (arith, frame-long f (move_at f (moves f - 1)) 6 3 0 (sym (then_zero _ _ last).0) refl)
+      omega (arith, frame-whole f (move_at f (moves f - 1)) 6 3 (sym (then_zero _ _ last).0))
 
   -- no refusal from 2 to 6: the records are sound
   pub sound : Sound f
@@ -158,14 +161,7 @@ exact_length f e =
 -- ## What the code reads of a sound file of n states and m moves
 
 module _ (f : List ℕ) (n : ℕ) (e : n ≡ states f) (g : Sound f) where
-  module _ (s x : ℕ) (l : s < n) (p : x ≡ number_at f (10 + 8 * s + 6)) where
-    pub block-below : x ≤ s
-    block-below = omega (arith, g.below s (omega arith))
-
   module _ (m : ℕ) (q : m ≡ moves f) (k i : ℕ) (l : k < m) (p : i ≡ move_at f k) where
     pub move-inside : i + 8 ≤ length f
     unfolding move_at
     move-inside = omega (arith, g.long)
-
-    pub from_small : (x : ℕ) → x ≡ number_at f (i + 4) → x < max_states
-    from_small x r = omega (arith, r, ap (λ (i : ℕ). number_at f (i + 4)) p, g.froms k (omega arith), g.few-states)

@@ -1,5 +1,8 @@
 -- 01, 'Game file': what stands where in the bytes f of a file.
-use Rattle.std.specs.Prelude.{ℕ, ◌+◌, ◌*◌, ◌<◌, List, get_or}
+use Rattle.std.specs.Prelude.{ℕ, ◌+◌, ◌*◌, ◌≤◌, ◌<◌, ◌≡◌, List, get_or}
+use Rattle.game.specs.Limits.{max_states, max_moves}
+use Rattle.file.specs.declared.Kind.{Kind}
+use Rattle.file.specs.declared.Kind.TheVariants.{Head, State, Move}
 
 -- the byte at place i
 abbrev pub byte : List ℕ → ℕ → ℕ
@@ -45,3 +48,21 @@ from f k = number_at f (move_at f k + 4)
 
 abbrev pub to : List ℕ → ℕ → ℕ
 to f k = number_at f (move_at f k + 6)
+
+-- 01, 'Game file': kind 1, head, length 8; kind 2, state, length 6; kind 3, move, length 6
+abbrev pub number_of : Kind → ℕ
+number_of Head = 1
+number_of State = 2
+number_of Move = 3
+
+abbrev pub length_of : Kind → ℕ
+length_of Head = 8
+length_of State = 6
+length_of Move = 6
+
+-- n and m are the numbers of states and moves that the head says, and within the limits
+pub record Counted (f : List ℕ) (n m : ℕ) : Type 0 where
+  pub states-said : n ≡ states f
+  pub moves-said : m ≡ moves f
+  pub few-states : n ≤ max_states
+  pub few-moves : m ≤ max_moves

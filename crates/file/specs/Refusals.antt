@@ -1,5 +1,5 @@
 -- 01, 'Refusals in their order': the first refusal of the bytes f of a file, line by line.
-use Rattle.std.specs.Prelude.{ℕ, zero, suc, ◌+◌, Bool, true, not, ◌&&◌, ◌||◌, List, length, eqb, leb, ltb}
+use Rattle.std.specs.Prelude.{ℕ, zero, suc, ◌+◌, ◌<◌, ◌≡◌, Bool, true, false, get_or, not, ◌&&◌, ◌||◌, List, length, eqb, leb, ltb}
 use Rattle.arena.specs.Sets.{Set, some, every}
 use Rattle.game.specs.Limits.{max_states, max_moves}
 use Rattle.game.specs.Game.{within, known_objective, known_turn, marked}
@@ -67,6 +67,11 @@ target f s = marked 2 (marks f s)
 -- state s has a move
 unfoldable pub moved : List ℕ → ℕ → Bool
 moved f s = some (moves f) (λ k. eqb (from f k) s)
+
+-- a row that holds of each state whether it has a move
+pub record Moved (f : List ℕ) (row : List Bool) : Type 0 where
+  pub long : length row ≡ max_states
+  pub cell : (s : ℕ) → s < max_states → get_or row s false ≡ moved f s
 
 -- some member of block b is in X
 abbrev pub member : List ℕ → Set → ℕ → Bool

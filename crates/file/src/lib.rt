@@ -4,12 +4,11 @@
 ghost use Rattle.std.specs.Prelude.{◌≡◌, ◌+◌, ◌*◌, ◌≤◌, ◌<◌, length};
 ghost use Rattle.arena.specs.Sets.{some, every, bit};
 ghost use Rattle.game.specs.Limits.{max_states, max_moves};
-ghost use Rattle.game.specs.Rows.{Cells};
 ghost use Rattle.game.specs.Game.{within, marked};
-ghost use Rattle.file.specs.Number.{refused, fault_of};
+ghost use Rattle.file.specs.Number.{fault_of};
 ghost use Rattle.file.specs.Fault.{lowest};
-ghost use Rattle.file.specs.Layout.{byte, number_at, states, moves, state_at, move_at};
-ghost use Rattle.file.specs.Refusals.{frame, head_fields, head_fault, state_fields, state_fault, pair_below, ascends, move_fields, move_fault, initial, moved, mixed, block_fault, whole_fault, refusal};
+ghost use Rattle.file.specs.Layout.{marks, number_of, length_of, Counted, number_at, states, moves, state_at, move_at};
+ghost use Rattle.file.specs.Refusals.{Moved, frame, head_fields, head_fault, state_fields, state_fault, pair_below, ascends, move_fields, move_fault, initial, moved, mixed, block_fault, whole_fault, refusal};
 ghost use Rattle.file.specs.Sound.{Sound};
 
 use game::{Game, has_mark};
@@ -18,38 +17,62 @@ pub mod refusal;
 
 pub use refusal::Refusal;
 
-fn pair(low: u8, high: u8) -> u16
-    ensures { result ≡ low + 256 * high }
-{
-    low as u16 + 256 * (high as u16)
-}
-
 // The two bytes at a place, the low one first.
+#[tactic(auto, unfolding(crate::specs::Layout::number_at))]
 pub fn number_at(file: &[u8], at: usize) -> u16
     requires { at + 1 < length file.now }
     ensures { result ≡ number_at file.now at }
 {
-    pair(file[at], file[at + 1])
+    u16::from_le_bytes([file[at], file[at + 1]])
 }
 
-// What a record of this length and kind at this place is refused for, before its fields are looked at.
-fn frame_fault(file: &[u8], at: usize, len: u16, kind: u16) -> u8
+// The kinds of record.
+#[derive(Clone, Copy, Debug, PartialEq, Eq, Hash)]
+enum Kind {
+    Head,
+    State,
+    Move,
+}
+
+impl Kind {
+    // The number that stands for the kind.
+    fn number(self) -> u16
+        ensures { result ≡ number_of self }
+    {
+        match self {
+            Kind::Head => 1,
+            Kind::State => 2,
+            Kind::Move => 3,
+        }
+    }
+
+    // How many bytes follow the length field.
+    fn length(self) -> u16
+        ensures { result ≡ length_of self }
+    {
+        match self {
+            Kind::Head => 8,
+            Kind::State | Kind::Move => 6,
+        }
+    }
+}
+
+// What a record of this kind at this place is refused for, before its fields are looked at.
+#[tactic(auto, using(crate::proofs::Laws::chain), unfolding(crate::specs::Refusals::frame))]
+fn frame_fault(file: &[u8], at: usize, kind: Kind) -> Result<(), Refusal>
     requires { at < 65536 }
-    ensures { result ≡ frame file.now at len kind }
+    ensures { fault_of result ≡ frame file.now at (length_of kind) (number_of kind) }
 {
     if file.len() < at + 4 {
-        return 2;
+        return Err(Refusal::CutShort);
     }
-    if number_at(file, at) != len {
-        return 3;
+    if number_at(file, at) != kind.length() || number_at(file, at + 2) != kind.number() {
+        return Err(Refusal::OtherRecord);
     }
-    if number_at(file, at + 2) != kind {
-        return 3;
+    if file.len() < at + 2 + usize::from(kind.length()) {
+        return Err(Refusal::CutShort);
     }
-    if file.len() < at + 2 + len as usize {
-        return 2;
-    }
-    0
+    Ok(())
 }
 
 // The two bytes at a place are a number from low to high.
@@ -57,95 +80,70 @@ fn number_within(file: &[u8], at: usize, low: usize, high: usize) -> bool
     requires { at + 1 < length file.now }
     ensures { result ≡ within low high (number_at file.now at) }
 {
-    let x = number_at(file, at) as usize;
-    if x < low {
-        return false;
-    }
-    x <= high
+    (low..=high).contains(&usize::from(number_at(file, at)))
 }
 
 // What the fields of the head are refused for.
-fn head_fields(file: &[u8]) -> u8
+#[tactic(auto, using(crate::proofs::Laws::chain), unfolding(crate::specs::Refusals::head_fields))]
+fn head_fields(file: &[u8]) -> Result<(), Refusal>
     requires { 10 ≤ length file.now }
-    ensures { result ≡ head_fields file.now }
+    ensures { fault_of result ≡ head_fields file.now }
 {
-    if !number_within(file, 4, 1, Game::MAX_STATES) {
-        return 4;
+    if !number_within(file, 4, 1, Game::MAX_STATES)
+        || !number_within(file, 6, 1, Game::MAX_MOVES)
+        || !number_within(file, 8, 1, 2)
+    {
+        return Err(Refusal::BadHead);
     }
-    if !number_within(file, 6, 1, Game::MAX_MOVES) {
-        return 4;
-    }
-    if !number_within(file, 8, 1, 2) {
-        return 4;
-    }
-    0
+    Ok(())
 }
 
-fn head_fault(file: &[u8]) -> u8
-    ensures { result ≡ head_fault file.now }
+#[tactic(auto, using(crate::proofs::Laws::chain), unfolding(crate::specs::Refusals::head_fault))]
+fn head_fault(file: &[u8]) -> Result<(), Refusal>
+    ensures { fault_of result ≡ head_fault file.now }
 {
-    let e = frame_fault(file, 0, 8, 1);
-    if e != 0 {
-        return e;
-    }
+    frame_fault(file, 0, Kind::Head)?;
     head_fields(file)
 }
 
+// The pair of the move whose record stands at this place: the states that it leads from and to.
+fn pair_at(file: &[u8], at: usize) -> (u16, u16)
+    requires { at + 8 ≤ length file.now }
+    ensures { (result.0 ≡ number_at file.now (at + 4)) × (result.1 ≡ number_at file.now (at + 6)) }
+{
+    (number_at(file, at + 4), number_at(file, at + 6))
+}
+
 // What the fields of state s are refused for.
-fn state_fields(file: &[u8], s: usize) -> u8
+#[tactic(auto, using(crate::proofs::Laws::chain), unfolding(crate::specs::Refusals::state_fields))]
+fn state_fields(file: &[u8], s: usize) -> Result<(), Refusal>
     requires { (s < max_states) × (state_at s + 8 ≤ length file.now) }
-    ensures { result ≡ state_fields file.now s }
+    ensures { fault_of result ≡ state_fields file.now s }
 {
     let at = 10 + 8 * s;
     let turn = file[at + 4];
-    if turn < 1 {
-        return 5;
+    if turn < 1 || turn > 2 || file[at + 5] > 3 {
+        return Err(Refusal::BadState);
     }
-    if turn > 2 {
-        return 5;
+    let block = number_at(file, at + 6);
+    let lowest = usize::from(block);
+    if lowest > s || number_at(file, 10 + 8 * lowest + 6) != block {
+        return Err(Refusal::BadState);
     }
-    if file[at + 5] > 3 {
-        return 5;
-    }
-    let b = number_at(file, at + 6);
-    let i = b as usize;
-    if i > s {
-        return 5;
-    }
-    if number_at(file, 10 + 8 * i + 6) != b {
-        return 5;
-    }
-    0
+    Ok(())
 }
 
-fn state_fault(file: &[u8], s: usize) -> u8
+#[tactic(auto, using(crate::proofs::Laws::chain), unfolding(crate::specs::Refusals::state_fault))]
+fn state_fault(file: &[u8], s: usize) -> Result<(), Refusal>
     requires { s < max_states }
-    ensures { result ≡ state_fault file.now s }
+    ensures { fault_of result ≡ state_fault file.now s }
 {
-    let e = frame_fault(file, 10 + 8 * s, 6, 2);
-    if e != 0 {
-        return e;
-    }
+    frame_fault(file, 10 + 8 * s, Kind::State)?;
     state_fields(file, s)
 }
 
-// What the first faulty state record is refused for.
-fn states_fault(file: &[u8], n: usize) -> u8
-    requires { n ≤ max_states }
-    ensures { result ≡ lowest n (state_fault file.now) }
-{
-    let mut s: usize = 0;
-    while s < n {
-        let e = state_fault(file, s);
-        if e != 0 {
-            return e;
-        }
-        s += 1;
-    }
-    0
-}
-
 // Where the record of move k stands, in a file of n states.
+#[tactic(auto, unfolding(crate::specs::Layout::move_at))]
 pub fn move_at(file: &[u8], n: usize, k: usize) -> usize
     requires { (n ≡ states file.now) × (n ≤ max_states) × (k ≤ max_moves) }
     ensures { (result ≡ move_at file.now k) × (result < 65536) }
@@ -153,223 +151,181 @@ pub fn move_at(file: &[u8], n: usize, k: usize) -> usize
     10 + 8 * n + 8 * k
 }
 
-fn pair_below(from: u16, to: u16, next_from: u16, next_to: u16) -> bool
-    ensures { result ≡ pair_below from to next_from next_to }
-{
-    if from < next_from {
-        return true;
-    }
-    if from != next_from {
-        return false;
-    }
-    to < next_to
+// A file and the numbers of states and moves that its head says.
+#[derive(Clone, Copy)]
+struct Records<'a> {
+    file: &'a [u8],
+    states: usize,
+    moves: usize,
+    ghost counted: { Counted file.now states moves },
 }
 
-// The pair of move k, whose record stands at this place, is above the one before.
-fn ascends_at(file: &[u8], n: usize, k: usize, at: usize) -> bool
-    requires { (at ≡ move_at file.now k) × (n ≡ states file.now) × (n ≤ max_states) × (k < max_moves) × (at + 8 ≤ length file.now) }
-    ensures { result ≡ ascends file.now k }
-{
-    if k == 0 {
-        return true;
-    }
-    let from = number_at(file, at + 4);
-    let to = number_at(file, at + 6);
-    let before = move_at(file, n, k - 1);
-    let from_before = number_at(file, before + 4);
-    let to_before = number_at(file, before + 6);
-    pair_below(from_before, to_before, from, to)
-}
-
-// What the fields of move k, whose record stands at this place, are refused for.
-fn move_fields(file: &[u8], n: usize, k: usize, at: usize) -> u8
-    requires { (at ≡ move_at file.now k) × (n ≡ states file.now) × (n ≤ max_states) × (k < max_moves) × (at + 8 ≤ length file.now) }
-    ensures { result ≡ move_fields file.now k }
-{
-    let from = number_at(file, at + 4);
-    if from as usize >= n {
-        return 6;
-    }
-    let to = number_at(file, at + 6);
-    if to as usize >= n {
-        return 6;
-    }
-    if !ascends_at(file, n, k, at) {
-        return 6;
-    }
-    0
-}
-
-fn move_fault(file: &[u8], n: usize, k: usize) -> u8
-    requires { (n ≡ states file.now) × (n ≤ max_states) × (k < max_moves) }
-    ensures { result ≡ move_fault file.now k }
-{
-    let at = move_at(file, n, k);
-    let e = frame_fault(file, at, 6, 3);
-    if e != 0 {
-        return e;
-    }
-    move_fields(file, n, k, at)
-}
-
-// What the first faulty move record is refused for.
-fn moves_fault(file: &[u8], n: usize, m: usize) -> u8
-    requires { (n ≡ states file.now) × (n ≤ max_states) × (m ≤ max_moves) }
-    ensures { result ≡ lowest m (move_fault file.now) }
-{
-    let mut k: usize = 0;
-    while k < m {
-        let e = move_fault(file, n, k);
-        if e != 0 {
-            return e;
+impl Records<'_> {
+    // What the first faulty state record is refused for.
+    #[tactic(auto, using(crate::proofs::Laws::records))]
+    fn states_fault(&self) -> Result<(), Refusal>
+        ensures { fault_of result ≡ lowest self.now.states (state_fault self.now.file.now) }
+    {
+        for s in 0..self.states {
+            state_fault(self.file, s)?;
         }
-        k += 1;
+        Ok(())
     }
-    0
-}
 
-// Some state is initial.
-fn some_initial(file: &[u8], n: usize) -> bool
-    requires { (n ≤ max_states) × (state_at n ≤ length file.now) }
-    ensures { result ≡ some n (initial file.now) }
-{
-    let mut s: usize = 0;
-    while s < n {
-        if has_mark(1, file[10 + 8 * s + 5]) {
+    // Where the record of move k stands.
+    fn move_at(&self, k: usize) -> usize
+        requires { k ≤ max_moves }
+        ensures { (result ≡ move_at self.now.file.now k) × (result < 65536) }
+    {
+        move_at(self.file, self.states, k)
+    }
+
+    // The pair of move k, whose record stands at this place, is above the one before.
+    #[tactic(auto, unfolding(crate::specs::Refusals::ascends, crate::specs::Refusals::pair_below))]
+    fn ascends_at(&self, k: usize, at: usize) -> bool
+        requires { (at ≡ move_at self.now.file.now k) × (k < max_moves) × (at + 8 ≤ length self.now.file.now) }
+        ensures { result ≡ ascends self.now.file.now k }
+    {
+        if k == 0 {
             return true;
         }
-        s += 1;
+        let before = self.move_at(k - 1);
+        pair_at(self.file, before) < pair_at(self.file, at)
     }
-    false
-}
 
-// For each state, 1 if it has a move.
-fn moved_row(file: &[u8], n: usize, m: usize) -> [u8; Game::MAX_STATES]
-    requires { (n ≡ states file.now) × (m ≡ moves file.now) × Sound file.now }
-    ensures { Cells max_states result (λ s. bit (moved file.now s)) }
-{
-    let mut has = [0u8; Game::MAX_STATES];
-    let mut k: usize = 0;
-    while k < m {
-        let at = move_at(file, n, k);
-        let from = number_at(file, at + 4) as usize;
-        has[from] = 1;
-        k += 1;
-    }
-    has
-}
-
-// Every state has a move.
-fn all_moved(file: &[u8], n: usize, m: usize) -> bool
-    requires { (n ≡ states file.now) × (m ≡ moves file.now) × Sound file.now }
-    ensures { result ≡ every n (moved file.now) }
-{
-    let has = moved_row(file, n, m);
-    let mut s: usize = 0;
-    while s < n {
-        if has[s] != 1 {
-            return false;
+    // What the fields of move k, whose record stands at this place, are refused for.
+    #[tactic(auto, using(crate::proofs::Laws::chain), unfolding(crate::specs::Refusals::move_fields))]
+    fn move_fields(&self, k: usize, at: usize) -> Result<(), Refusal>
+        requires { (at ≡ move_at self.now.file.now k) × (k < max_moves) × (at + 8 ≤ length self.now.file.now) }
+        ensures { fault_of result ≡ move_fields self.now.file.now k }
+    {
+        let (from, to) = pair_at(self.file, at);
+        if usize::from(from) >= self.states
+            || usize::from(to) >= self.states
+            || !self.ascends_at(k, at)
+        {
+            return Err(Refusal::BadMove);
         }
-        s += 1;
+        Ok(())
     }
-    true
-}
 
-// Some block has members with this mark in a field of their records, and others. Each state is held against the one
-// that names its block, so one walk is enough.
-fn mixed_blocks(file: &[u8], n: usize, field: usize, mark: u8) -> bool
-    requires { (n ≡ states file.now) × (field < 8) × Sound file.now }
-    ensures { result ≡ mixed file.now (λ s. marked mark (byte file.now (state_at s + field))) }
-{
-    let mut s: usize = 0;
-    while s < n {
-        let b = number_at(file, 10 + 8 * s + 6) as usize;
-        let own = has_mark(mark, file[10 + 8 * s + field]);
-        let first = has_mark(mark, file[10 + 8 * b + field]);
-        if own != first {
-            return true;
+    #[tactic(auto, using(crate::proofs::Laws::chain), unfolding(crate::specs::Refusals::move_fault))]
+    fn move_fault(&self, k: usize) -> Result<(), Refusal>
+        requires { k < max_moves }
+        ensures { fault_of result ≡ move_fault self.now.file.now k }
+    {
+        let at = self.move_at(k);
+        frame_fault(self.file, at, Kind::Move)?;
+        self.move_fields(k, at)
+    }
+
+    // What the first faulty move record is refused for.
+    #[tactic(auto, using(crate::proofs::Laws::records))]
+    fn moves_fault(&self) -> Result<(), Refusal>
+        ensures { fault_of result ≡ lowest self.now.moves (move_fault self.now.file.now) }
+    {
+        for k in 0..self.moves {
+            self.move_fault(k)?;
         }
-        s += 1;
+        Ok(())
     }
-    false
-}
 
-// What the blocks of a file with sound records are refused for.
-fn block_fault(file: &[u8], n: usize) -> u8
-    requires { (n ≡ states file.now) × Sound file.now }
-    ensures { result ≡ block_fault file.now }
-{
-    if mixed_blocks(file, n, 5, 1) {
-        return 10;
+    // Some state is initial.
+    fn some_initial(&self) -> bool
+        requires { Sound self.now.file.now }
+        ensures { result ≡ some self.now.states (initial self.now.file.now) }
+    {
+        for s in 0..self.states {
+            if has_mark(1, self.file[10 + 8 * s + 5]) {
+                return true;
+            }
+        }
+        false
     }
-    if mixed_blocks(file, n, 5, 2) {
-        return 11;
-    }
-    0
-}
 
-// What a file with sound records is refused for.
-fn whole_fault(file: &[u8], n: usize, m: usize) -> u8
-    requires { (n ≡ states file.now) × (m ≡ moves file.now) × Sound file.now }
-    ensures { result ≡ whole_fault file.now }
-{
-    if file.len() > move_at(file, n, m) {
-        return 7;
+    // For each state, whether it has a move.
+    fn moved_row(&self) -> [bool; Game::MAX_STATES]
+        requires { Sound self.now.file.now }
+        ensures { Moved self.now.file.now result }
+    {
+        let mut has = [false; Game::MAX_STATES];
+        for k in 0..self.moves {
+            let (from, _) = pair_at(self.file, self.move_at(k));
+            has[usize::from(from)] = true;
+        }
+        has
     }
-    if !some_initial(file, n) {
-        return 8;
-    }
-    if !all_moved(file, n, m) {
-        return 9;
-    }
-    block_fault(file, n)
-}
 
-// The number of the first refusal, or 0 for an accepted file.
-fn first_fault(file: &[u8]) -> u8
-    ensures { result ≡ refusal file.now }
-{
-    let head = head_fault(file);
-    if head != 0 {
-        return head;
+    // Every state has a move.
+    fn all_moved(&self) -> bool
+        requires { Sound self.now.file.now }
+        ensures { result ≡ every self.now.states (moved self.now.file.now) }
+    {
+        self.moved_row()[..self.states].iter().all(|&has| has)
     }
-    let n = number_at(file, 4) as usize;
-    let m = number_at(file, 6) as usize;
-    let state = states_fault(file, n);
-    if state != 0 {
-        return state;
-    }
-    let move_ = moves_fault(file, n, m);
-    if move_ != 0 {
-        return move_;
-    }
-    whole_fault(file, n, m)
-}
 
-// The refusal of a number from 1 to 11.
-fn refused(e: u8) -> Refusal
-    requires { (1 ≤ e) × (e ≤ 11) }
-    ensures { result ≡ refused e }
-{
-    match e {
-        1 => Refusal::ShortRow,
-        2 => Refusal::CutShort,
-        3 => Refusal::OtherRecord,
-        4 => Refusal::BadHead,
-        5 => Refusal::BadState,
-        6 => Refusal::BadMove,
-        7 => Refusal::BytesAtEnd,
-        8 => Refusal::NoStart,
-        9 => Refusal::NoMove,
-        10 => Refusal::MixedStarts,
-        _ => Refusal::MixedTarget,
+    // Some block has members with this mark in a field of their records, and others. Each state is held against the
+    // one that names its block, so one walk is enough.
+    fn mixed_blocks(&self, mark: u8) -> bool
+        requires { Sound self.now.file.now }
+        ensures { result ≡ mixed self.now.file.now (λ s. marked mark (marks self.now.file.now s)) }
+    {
+        for s in 0..self.states {
+            let block = usize::from(number_at(self.file, 10 + 8 * s + 6));
+            let own = has_mark(mark, self.file[10 + 8 * s + 5]);
+            if own != has_mark(mark, self.file[10 + 8 * block + 5]) {
+                return true;
+            }
+        }
+        false
+    }
+
+    // What the blocks of a file with sound records are refused for.
+    #[tactic(auto, using(crate::proofs::Laws::chain), unfolding(crate::specs::Refusals::block_fault))]
+    fn block_fault(&self) -> Result<(), Refusal>
+        requires { Sound self.now.file.now }
+        ensures { fault_of result ≡ block_fault self.now.file.now }
+    {
+        if self.mixed_blocks(1) {
+            return Err(Refusal::MixedStarts);
+        }
+        if self.mixed_blocks(2) {
+            return Err(Refusal::MixedTarget);
+        }
+        Ok(())
+    }
+
+    // What a file with sound records is refused for.
+    #[tactic(auto, using(crate::proofs::Laws::chain), unfolding(crate::specs::Refusals::whole_fault))]
+    fn whole_fault(&self) -> Result<(), Refusal>
+        requires { Sound self.now.file.now }
+        ensures { fault_of result ≡ whole_fault self.now.file.now }
+    {
+        if self.file.len() > self.move_at(self.moves) {
+            return Err(Refusal::BytesAtEnd);
+        }
+        if !self.some_initial() {
+            return Err(Refusal::NoStart);
+        }
+        if !self.all_moved() {
+            return Err(Refusal::NoMove);
+        }
+        self.block_fault()
     }
 }
 
 // The first refusal of a file, or none of an accepted one. Any byte string will do.
+#[tactic(auto, using(crate::proofs::Laws::chain), unfolding(crate::specs::Refusals::refusal))]
 pub fn first_refusal(file: &[u8]) -> Result<(), Refusal>
     ensures { fault_of result ≡ refusal file.now }
 {
-    let e = first_fault(file);
-    if e == 0 { Ok(()) } else { Err(refused(e)) }
+    head_fault(file)?;
+    let records = Records {
+        file,
+        states: usize::from(number_at(file, 4)),
+        moves: usize::from(number_at(file, 6)),
+    };
+    records.states_fault()?;
+    records.moves_fault()?;
+    records.whole_fault()
 }

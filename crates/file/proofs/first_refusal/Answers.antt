@@ -1,11 +1,20 @@
 -- `first_refusal` meets its contract.
-use mathlib.Core.Path.{◌∙◌}
 use native.Mathlib.Omega.{arith}
-use Rattle.file.proofs.Numbers.{refusal_most, number_refused}
+use mathlib.Core.Path.{sym, ◌∙◌}
+use Rattle.file.proofs.Sound.{head_long, counted, sound}
 use Rattle.file.proofs.first_refusal.Goals as goal
 
-pub refused-requires : goal.refused-requires
-refused-requires c = (omega arith, omega (arith, c.first_fault-e.ensures, refusal_most c.args.file.now))
+pub number_at-requires : goal.number_at-requires
+number_at-requires c = omega (arith, head_long _ c.in_ok-head_fault.ensures)
 
-pub returns-else-e-eq0 : goal.returns-else-e-eq0
-returns-else-e-eq0 c = rw c.refused.ensures (number_refused _ (omega arith) (omega (arith, c.first_fault-e.ensures, refusal_most c.args.file.now)) ∙ c.first_fault-e.ensures)
+pub number_at-requires-2 : goal.number_at-requires-2
+number_at-requires-2 c = omega (arith, head_long _ c.in_ok-head_fault.ensures)
+
+pub invariant_of-records : goal.invariant_of-records
+invariant_of-records c = record { counted = counted _ c.in_ok-head_fault.ensures _ _ (c.from.ensures ∙ c.number_at.ensures) (c.from-2.ensures ∙ c.number_at-2.ensures) }
+
+pub whole_fault-requires : goal.whole_fault-requires
+whole_fault-requires c =
+    sound _ (sym c.in_ok-head_fault.ensures)
+    (rw (c.from.ensures ∙ c.number_at.ensures) at (sym c.in_ok-states_fault.ensures))
+    (rw (c.from-2.ensures ∙ c.number_at-2.ensures) at (sym c.in_ok-moves_fault.ensures))

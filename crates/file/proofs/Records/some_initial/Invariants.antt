@@ -1,0 +1,10 @@
+-- `some_initial` meets its contract.
+use mathlib.Core.Path.{◌≡◌}
+use mathlib.Core.Bool.{false}
+use Prim.Native.Nat.{◌≤◌}
+use Rattle.arena.specs.Sets.{some}
+use Rattle.file.specs.Refusals.{initial}
+use Rattle.file.proofs.Records.some_initial.Given as goal
+
+abbrev pub invariant-loop-s : goal.invariant-loop-s
+invariant-loop-s l = (l.s ≤ l.self.states) × (some l.s (initial l.self.file.now) ≡ false)
