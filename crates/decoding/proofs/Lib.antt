@@ -1,2 +1,3 @@
 pub mod GameRows
+pub mod Mapped
 pub mod Accepted

@@ -1,4 +1,5 @@
-// The records of a sound file, read into rows of plain numbers: the one place where such rows are made.
+// The records of a sound file, read into rows of plain numbers: the one place where such rows are made. What is asked of
+// the file, `n` and `m` stands in both contracts, which docs/PROMISES.md names.
 ghost use Rattle.std.specs.Prelude.{◌≡◌, ◌≤◌, length};
 ghost use Rattle.game.specs.Rows.{fill};
 ghost use Rattle.file.specs.Layout.{states, moves, turn as turn_of, marks as marks_of, block as block_of, from as from_of, to as to_of};
@@ -13,13 +14,11 @@ pub fn plain_states(file: &[u8], n: usize, turn: &mut [u8], marks: &mut [u8], bl
     ensures marks { marks.new ≡ fill n (marks_of file.now) marks.old }
     ensures block { block.new ≡ fill n (block_of file.now) block.old }
 {
-    let mut s: usize = 0;
-    while s < n {
+    for s in 0..n {
         let at = 10 + 8 * s;
         turn[s] = file[at + 4];
         marks[s] = file[at + 5];
         block[s] = number_at(file, at + 6);
-        s += 1;
     }
 }
 
@@ -29,11 +28,9 @@ pub fn plain_moves(file: &[u8], n: usize, m: usize, from: &mut [u16], to: &mut [
     ensures from { from.new ≡ fill m (from_of file.now) from.old }
     ensures to { to.new ≡ fill m (to_of file.now) to.old }
 {
-    let mut k: usize = 0;
-    while k < m {
+    for k in 0..m {
         let at = move_at(file, n, k);
         from[k] = number_at(file, at + 4);
         to[k] = number_at(file, at + 6);
-        k += 1;
     }
 }

@@ -9,13 +9,17 @@ use Rattle.encoding.specs.Encode.{file_of}
 use Rattle.file.specs.Refusals.{refusal}
 use Rattle.decoding.specs.Decode.{game_of}
 
+-- the other of 1 and 2
+abbrev pub other : ℕ → ℕ
+other x = cond (eqb x 1) 2 1
+
 -- demand 3: flip whose turn each state is
 abbrev pub other_turn : ℕ → ℕ
-other_turn t = cond (eqb t 1) 2 1
+other_turn t = other t
 
 -- demand 3: turn reach into stay or stay into reach
 abbrev pub other_objective : ℕ → ℕ
-other_objective o = cond (eqb o 1) 2 1
+other_objective o = other o
 
 -- demand 3: take the other states as target; 01, 'What is handed back': initial marks are equal
 abbrev pub other_marks : ℕ → ℕ

@@ -3,21 +3,16 @@
 
 ghost use Rattle.std.specs.Prelude.{◌≡◌, ◌≤◌};
 ghost use Rattle.game.specs.Limits.{max_states};
-ghost use Rattle.exchange.specs.Exchange.{other_turn, other_objective, other_marks, exchanged};
+ghost use Rattle.exchange.specs.Exchange.{other, other_marks, exchanged};
 ghost use Rattle.exchange.specs.Bytes.{exchanged_byte};
 
 use file::{Refusal, first_refusal, number_at};
 
-fn other_turn(turn: u8) -> u8
-    ensures { result ≡ other_turn turn }
+// The other of 1 and 2: of the two turns, and of the two objectives.
+fn other(turn: u8) -> u8
+    ensures { result ≡ other turn }
 {
     if turn == 1 { 2 } else { 1 }
-}
-
-fn other_objective(objective: u8) -> u8
-    ensures { result ≡ other_objective objective }
-{
-    if objective == 1 { 2 } else { 1 }
 }
 
 fn other_marks(marks: u8) -> u8
@@ -27,26 +22,22 @@ fn other_marks(marks: u8) -> u8
 }
 
 // What the byte b at place i of a file of n states becomes.
+#[tactic(auto, using(arena::proofs::Choices::choices), unfolding(crate::specs::Bytes::exchanged_byte))]
 fn exchanged_byte(n: usize, i: usize, b: u8) -> u8
     requires { n ≤ max_states }
     ensures { result ≡ exchanged_byte n i b }
 {
     if i == 8 {
-        return other_objective(b);
+        return other(b);
     }
-    if i < 10 {
+    if i < 10 || i >= 10 + 8 * n {
         return b;
     }
-    if i >= 10 + 8 * n {
-        return b;
+    match (i - 10) % 8 {
+        4 => other(b),
+        5 => other_marks(b),
+        _ => b,
     }
-    if (i - 10) % 8 == 4 {
-        return other_turn(b);
-    }
-    if (i - 10) % 8 == 5 {
-        return other_marks(b);
-    }
-    b
 }
 
 // Writes the file of the exchanged game into the first bytes of the output, and answers its length. A refusal leaves

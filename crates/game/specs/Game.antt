@@ -77,7 +77,7 @@ reblocked g row =
       to = g.to;
     }
 
--- the game that stands beside a refusal
+-- the game of no states and no moves: all rows 0
 unfoldable pub empty_game : Game
 empty_game =
     record {

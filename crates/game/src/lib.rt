@@ -5,16 +5,17 @@ ghost use Rattle.std.specs.Prelude.{◌≡◌};
 ghost use Rattle.game.specs.Game.{marked, empty_game};
 
 // The number of one state.
-#[derive(Clone, Copy)]
+#[derive(Clone, Copy, Debug, PartialEq, Eq, PartialOrd, Ord, Hash)]
 pub struct StateNo(pub u16);
 
 // The number of a block, which is its lowest member's.
-#[derive(Clone, Copy)]
+#[derive(Clone, Copy, Debug, PartialEq, Eq, PartialOrd, Ord, Hash)]
 pub struct BlockNo(pub u16);
 
 // A game of at most `MAX_STATES` states and `MAX_MOVES` moves. The first places of each row, one per state or per
 // move, say the game; the rest are 0. The objective is 1 for reach and 2 for stay, a turn is 1 or 2, marks are 1 for
-// an initial state, 2 for a target state, 3 for both and 0 for neither.
+// an initial state, 2 for a target state, 3 for both and 0 for neither. They stay numbers, and rows with a length beside
+// them: `turn_at`, `marks_at`, `block_at` and the contract of `decode` (`game_of`) read them so.
 #[derive(Clone, Copy)]
 pub struct Game {
     pub states: usize,
@@ -32,7 +33,7 @@ impl Game {
 
     pub const MAX_MOVES: usize = 4096;
 
-    // The game that stands beside a refusal: no states, no moves, all rows 0.
+    // The game of no states and no moves: all rows 0.
     pub fn empty() -> Game
         ensures { result ≡ empty_game }
     {
@@ -53,5 +54,5 @@ impl Game {
 pub fn has_mark(mark: u8, marks: u8) -> bool
     ensures { result ≡ marked mark marks }
 {
-    if marks == mark { true } else { marks == 3 }
+    marks == mark || marks == 3
 }

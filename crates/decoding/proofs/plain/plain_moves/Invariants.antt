@@ -1,6 +1,6 @@
 -- `plain_moves` meets its contract.
 use mathlib.Core.Path.{◌≡◌}
-use Prim.Native.Nat.{◌-◌, ◌≤◌}
+use Prim.Native.Nat.{◌≤◌}
 use lib.ListN.{length}
 use Rattle.game.specs.Rows.{fill}
 use Rattle.file.specs.Layout.{from as from_of, to as to_of}
@@ -13,6 +13,3 @@ invariant-loop-k l =
     × (l.to ≡ fill l.k (to_of l.file) l.initial.to)
     × (length l.from ≡ length l.initial.from)
     × (length l.to ≡ length l.initial.to)
-
-abbrev pub decreases-loop-k : goal.decreases-loop-k
-decreases-loop-k l = l.m - l.k

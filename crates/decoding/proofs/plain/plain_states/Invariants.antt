@@ -1,6 +1,6 @@
 -- `plain_states` meets its contract.
 use mathlib.Core.Path.{◌≡◌}
-use Prim.Native.Nat.{◌-◌, ◌≤◌}
+use Prim.Native.Nat.{◌≤◌}
 use lib.ListN.{length}
 use Rattle.game.specs.Rows.{fill}
 use Rattle.file.specs.Layout.{turn as turn_of, marks as marks_of, block as block_of}
@@ -15,6 +15,3 @@ invariant-loop-s l =
     × (length l.turn ≡ length l.initial.turn)
     × (length l.marks ≡ length l.initial.marks)
     × (length l.block ≡ length l.initial.block)
-
-abbrev pub decreases-loop-s : goal.decreases-loop-s
-decreases-loop-s l = l.n - l.s
