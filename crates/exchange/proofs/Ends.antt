@@ -11,7 +11,7 @@ use Rattle.game.specs.Rows.{fill}
 use Rattle.file.specs.Layout.{Bytes}
 use Rattle.file.specs.Refusals.{refusal}
 use Rattle.file.proofs.Numbers.{number_range, refused_given, answer_given}
-use Rattle.file.proofs.Laws.{then_fault, then_none, unless-last, unless-end, refused-given, answer-given}
+use Rattle.file.proofs.Laws.{then_fault, then_none, unless-last, unless-end, kept_old, kept_new}
 use Rattle.file.specs.declared.refusal.Refusal.{Refusal}
 use Rattle.file.specs.declared.refusal.Refusal.TheVariants.{ShortRow}
 use Rattle.file.specs.Number.{number}
@@ -28,7 +28,7 @@ outcome answer output = record { answer = answer; output = output }
 module _ (f out : List ℕ) where
   refused : (r : Refusal) → number r ≡ exchange_fault f (length out) → outcome (Err r) out ≡ exchanged f out
   unfolding exchanged
-  refused r q = ap₂ outcome (refused_given _ r _ q) (refused-given (λ n. out) _ (number r) _ out q (λ z. omega (arith, number_range r)) refl)
+  refused r q = ap₂ outcome (refused_given _ r _ q) (kept_old out _ _ (rw q at (number_range r).0))
 
   -- the file is refused
   pub file-refused : (r : Refusal) → number r ≡ refusal f → outcome (Err r) out ≡ exchanged f out
@@ -50,7 +50,7 @@ module _ (f out : List ℕ) where
     unfolding exchanged
     all-written small room row w =
         ap₂ outcome (ap Ok (sym (same_length f (sym taken))) ∙ answer_given _ _ (fault_none room))
-        (answer-given (λ n. out) _ 0 _ row (fault_none room) refl (w ∙ bytes-written f out small (sym taken)))
+        (w ∙ bytes-written f out small (sym taken) ∙ kept_new out _ _ (fault_none room))
 
 -- ## What callers may count on
 

@@ -9,10 +9,10 @@ ghost use Rattle.exchange.specs.Bytes.{exchanged_byte};
 use file::{Refusal, first_refusal, number_at};
 
 // The other of 1 and 2: of the two turns, and of the two objectives.
-fn other(turn: u8) -> u8
-    ensures { result ≡ other turn }
+fn other(number: u8) -> u8
+    ensures { result ≡ other number }
 {
-    if turn == 1 { 2 } else { 1 }
+    if number == 1 { 2 } else { 1 }
 }
 
 fn other_marks(marks: u8) -> u8
@@ -49,7 +49,7 @@ pub fn exchange(file: &[u8], out: &mut [u8]) -> Result<usize, Refusal>
     if out.len() < file.len() {
         return Err(Refusal::ShortRow);
     }
-    let n = number_at(file, 4) as usize;
+    let n = usize::from(number_at(file, 4));
     for i in 0..file.len() {
         out[i] = exchanged_byte(n, i, file[i]);
     }

@@ -13,7 +13,7 @@ use lib.Dec.{T, ltb}
 use Rattle.arena.proofs.Choices.{both, first-not, second_not}
 use borrow.Author.Rules.{rules}
 use borrow.Author.Tests.{eq-eqb, ne_eqb, le-leb, lt-leb, lt-ltb, le-ltb, leb-true, not-true, not-false}
-use Rattle.file.specs.Fault.{unless, ◌then◌, lowest, refused_or}
+use Rattle.file.specs.Fault.{unless, ◌then◌, lowest, kept_or}
 use Rattle.file.specs.Refusals.{frame}
 
 -- ## Chains of tests, for the code that walks along them
@@ -58,15 +58,15 @@ pub ruleset chain = (unless_true, unless_false, then_passed, then_stopped, le-le
 
 pub ruleset faults = (then_fault, then_none, unless-last, unless-end, le-leb, lt-leb, lt-ltb, le-ltb, eq-eqb, ne_eqb, both, first-not, second_not, rules)
 
--- ## An answer or a refusal; e is the fault that a call gave
+-- ## Lent memory: kept on a fault, and else as it was written
 
-module _ {A : Type 0} (refused : ℕ → A) (x : A) where
-  pub refused-given : (e r : ℕ) (v : A) → e ≡ r → (e ≡ 0 → ⊥) → v ≡ refused e → v ≡ refused_or refused r x
-  refused-given e zero v p q w = absurd (q p)
-  refused-given e (suc r) v p q w = rw p at w
+module _ {A : Type 0} (old new : A) where
+  pub kept_old : (e : ℕ) → 0 < e → old ≡ kept_or old e new
+  kept_old zero h = absurd (omega arith)
+  kept_old (suc e) h = refl
 
-  pub answer-given : (e r : ℕ) (v : A) → e ≡ r → e ≡ 0 → v ≡ x → v ≡ refused_or refused r x
-  answer-given e r v p q w = let z : r ≡ 0 = sym p ∙ q in rw z w
+  pub kept_new : (e : ℕ) → 0 ≡ e → new ≡ kept_or old e new
+  kept_new e p = rw (← p) refl
 
 -- ## What a passed test says
 

@@ -2,7 +2,7 @@
 #![tactic(auto)]
 
 ghost use Rattle.std.specs.Prelude.{◌≡◌, ◌+◌, ◌*◌, ◌≤◌, ◌<◌, length};
-ghost use Rattle.arena.specs.Sets.{some, every, bit};
+ghost use Rattle.arena.specs.Sets.{some, every};
 ghost use Rattle.game.specs.Limits.{max_states, max_moves};
 ghost use Rattle.game.specs.Game.{within, marked};
 ghost use Rattle.file.specs.Number.{fault_of};

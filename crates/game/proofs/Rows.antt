@@ -1,6 +1,5 @@
 -- Laws of rows: fill and Cells, in the form that a loop's proof can use.
 use mathlib.Core.Path.{◌≡◌, refl, sym, ap, ap₂, ◌∙◌}
-use mathlib.Core.Bool.{Bool, true, false, or-true, or-false}
 use mathlib.Core.List.{List, [], ◌∷◌, ◌++◌}
 use Prim.Native.Nat.{ℕ, zero, suc, ◌+◌, ◌-◌, ◌≤◌, ◌<◌}
 use native.Mathlib.Decide.{ℕ_discrete}
@@ -11,7 +10,6 @@ use borrow.Author.Rules.{rules}
 use borrow.Author.Tests.{eq-eqb, ne_eqb}
 use lib.ListN.{length, get_or, set, drop, length-set, length-append, length-drop, length-replicate, get_or-replicate, get_or-append}
 use lib.Seq.{drop_at, ext_get_or, get_or-append-add, get_or-drop, get_or-set_same, get_or-set_other}
-use Rattle.arena.specs.Sets.{some, bit}
 use Rattle.arena.proofs.Loops.{some_more, tests}
 use Rattle.game.specs.Rows.{tabulate, fill, blank, zeros, Cells}
 
@@ -122,19 +120,4 @@ cells_store {n} {l} {l'} {f} {f'} i v c w h q keep =
     at : (s : ℕ) → s < n → get_or (set l i v) s 0 ≡ f' s
     at s b = elim (ℕ_discrete s i) [ yes p ↦ rw p (get_or-set_same l i v 0 (rw c.long h) ∙ q) | no p ↦ get_or-set_other l i s v 0 p ∙ c.cell s b ∙ keep s p ]
 
-pub some_same : (n : ℕ) (p : ℕ → Bool) → p n ≡ false → bit (some n p) ≡ bit (some (n + 1) p)
-some_same n p e = rw (some_more, e, or-false)
-
-pub some_now : (n : ℕ) (p : ℕ → Bool) → p n ≡ true → 1 ≡ bit (some (n + 1) p)
-some_now n p e = rw (some_more, e, or-true)
-
 pub ruleset walk = (tests, fill_none, fill_done, eq-eqb, ne_eqb, rules)
-
--- a cell that holds a Bool's bit, as a test saw it
-pub bit-one : (b : Bool) (v : ℕ) → v ≡ bit b → v ≡ 1 → b ≡ true
-bit-one true v e q = refl
-bit-one false v e q = absurd (omega arith)
-
-pub bit_not : (b : Bool) (v : ℕ) → v ≡ bit b → (v ≡ 1 → ⊥) → b ≡ false
-bit_not true v e q = absurd (q e)
-bit_not false v e q = refl

@@ -1,6 +1,6 @@
 -- `exchange` meets its contract.
 use native.Mathlib.Omega.{arith}
-use mathlib.Core.Path.{◌≡◌, refl}
+use mathlib.Core.Path.{◌≡◌, refl, ◌∙◌}
 use Rattle.std.specs.Prelude.{Err}
 use Rattle.std.proofs.Common.{rules}
 use Rattle.game.proofs.Rows.{walk, fill_none, fill_store, fill_done}
@@ -17,8 +17,8 @@ returns-in_err-first_refusal c =
 pub returns-then-out-file : goal.returns-then-out-file
 returns-then-out-file c = room-refused _ _ c.in_ok-first_refusal.ensures c.if-out-file.true
 
-pub number_at-n-requires : goal.number_at-n-requires
-number_at-n-requires c = omega (arith, (taken_sound _ c.in_ok-first_refusal.ensures).states-long)
+pub number_at-requires : goal.number_at-requires
+number_at-requires c = omega (arith, (taken_sound _ c.in_ok-first_refusal.ensures).states-long)
 
 pub loop-i-init : goal.loop-i-init
 loop-i-init c = (search walk, fill_none _ _, refl)
@@ -29,7 +29,7 @@ exchanged_byte-requires c = omega (arith, (taken_sound _ c.in_ok-first_refusal.e
 pub loop-i-preserved : goal.loop-i-preserved
 loop-i-preserved c = (
   search walk,
-  fill_store _ _ _ (omega arith) _ c.loop-i.invariant.1 _ (rw c.number_at-n.ensures at c.exchanged_byte.ensures),
+  fill_store _ _ _ (omega arith) _ c.loop-i.invariant.1 _ (rw (c.from-n.ensures ∙ c.number_at.ensures) at c.exchanged_byte.ensures),
   search walk,
 )
 
