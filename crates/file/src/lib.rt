@@ -229,14 +229,22 @@ impl Records<'_> {
         }
         Ok(())
     }
+}
 
+// The records of a file in which each one is without fault.
+#[derive(Clone, Copy)]
+struct SoundRecords<'a> {
+    records: Records<'a>,
+    ghost sound: { Sound records.file.now },
+}
+
+impl SoundRecords<'_> {
     // Some state is initial.
     fn some_initial(&self) -> bool
-        requires { Sound self.now.file.now }
-        ensures { result ≡ some self.now.states (initial self.now.file.now) }
+        ensures { result ≡ some self.now.records.states (initial self.now.records.file.now) }
     {
-        for s in 0..self.states {
-            if has_mark(1, self.file[10 + 8 * s + 5]) {
+        for s in 0..self.records.states {
+            if has_mark(1, self.records.file[10 + 8 * s + 5]) {
                 return true;
             }
         }
@@ -245,12 +253,11 @@ impl Records<'_> {
 
     // For each state, whether it has a move.
     fn moved_row(&self) -> [bool; Game::MAX_STATES]
-        requires { Sound self.now.file.now }
-        ensures { Moved self.now.file.now result }
+        ensures { Moved self.now.records.file.now result }
     {
         let mut has = [false; Game::MAX_STATES];
-        for k in 0..self.moves {
-            let (from, _) = pair_at(self.file, self.move_at(k));
+        for k in 0..self.records.moves {
+            let (from, _) = pair_at(self.records.file, self.records.move_at(k));
             has[usize::from(from)] = true;
         }
         has
@@ -258,22 +265,22 @@ impl Records<'_> {
 
     // Every state has a move.
     fn all_moved(&self) -> bool
-        requires { Sound self.now.file.now }
-        ensures { result ≡ every self.now.states (moved self.now.file.now) }
+        ensures { result ≡ every self.now.records.states (moved self.now.records.file.now) }
     {
-        self.moved_row()[..self.states].iter().all(|&has| has)
+        self.moved_row()[..self.records.states]
+            .iter()
+            .all(|&has| has)
     }
 
-    // Some block has members with this mark in a field of their records, and others. Each state is held against the
-    // one that names its block, so one walk is enough.
+    // Some block has members with this mark, and others. Each state is held against the one that names its block, so
+    // one walk is enough.
     fn mixed_blocks(&self, mark: u8) -> bool
-        requires { Sound self.now.file.now }
-        ensures { result ≡ mixed self.now.file.now (λ s. marked mark (marks self.now.file.now s)) }
+        ensures { result ≡ mixed self.now.records.file.now (λ s. marked mark (marks self.now.records.file.now s)) }
     {
-        for s in 0..self.states {
-            let block = usize::from(number_at(self.file, 10 + 8 * s + 6));
-            let own = has_mark(mark, self.file[10 + 8 * s + 5]);
-            if own != has_mark(mark, self.file[10 + 8 * block + 5]) {
+        for s in 0..self.records.states {
+            let block = usize::from(number_at(self.records.file, 10 + 8 * s + 6));
+            let own = has_mark(mark, self.records.file[10 + 8 * s + 5]);
+            if own != has_mark(mark, self.records.file[10 + 8 * block + 5]) {
                 return true;
             }
         }
@@ -283,8 +290,7 @@ impl Records<'_> {
     // What the blocks of a file with sound records are refused for.
     #[tactic(auto, using(crate::proofs::Laws::chain), unfolding(crate::specs::Refusals::block_fault))]
     fn block_fault(&self) -> Result<(), Refusal>
-        requires { Sound self.now.file.now }
-        ensures { fault_of result ≡ block_fault self.now.file.now }
+        ensures { fault_of result ≡ block_fault self.now.records.file.now }
     {
         if self.mixed_blocks(1) {
             return Err(Refusal::MixedStarts);
@@ -298,10 +304,9 @@ impl Records<'_> {
     // What a file with sound records is refused for.
     #[tactic(auto, using(crate::proofs::Laws::chain), unfolding(crate::specs::Refusals::whole_fault))]
     fn whole_fault(&self) -> Result<(), Refusal>
-        requires { Sound self.now.file.now }
-        ensures { fault_of result ≡ whole_fault self.now.file.now }
+        ensures { fault_of result ≡ whole_fault self.now.records.file.now }
     {
-        if self.file.len() > self.move_at(self.moves) {
+        if self.records.file.len() > self.records.move_at(self.records.moves) {
             return Err(Refusal::BytesAtEnd);
         }
         if !self.some_initial() {
@@ -327,5 +332,5 @@ pub fn first_refusal(file: &[u8]) -> Result<(), Refusal>
     };
     records.states_fault()?;
     records.moves_fault()?;
-    records.whole_fault()
+    SoundRecords { records }.whole_fault()
 }

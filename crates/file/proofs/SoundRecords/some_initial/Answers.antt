@@ -1,6 +1,6 @@
 -- `some_initial` meets its contract.
 use Rattle.game.proofs.Rows.{walk}
-use Rattle.file.proofs.Records.some_initial.Goals as goal
+use Rattle.file.proofs.SoundRecords.some_initial.Goals as goal
 
 pub loop-s-init : goal.loop-s-init
 loop-s-init c = search walk

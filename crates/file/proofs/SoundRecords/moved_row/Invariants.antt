@@ -7,10 +7,10 @@ use lib.ListN.{length, get_or}
 use Rattle.arena.specs.Sets.{some}
 use Rattle.file.specs.Layout.{from}
 use Rattle.game.specs.Limits.{max_states}
-use Rattle.file.proofs.Records.moved_row.Given as goal
+use Rattle.file.proofs.SoundRecords.moved_row.Given as goal
 
 abbrev pub invariant-loop-k : goal.invariant-loop-k
 invariant-loop-k l =
-    (l.k ≤ l.self.moves)
+    (l.k ≤ l.self.records.moves)
     × (length l.has ≡ max_states)
-    × ((s : ℕ) → s < max_states → get_or l.has s false ≡ some l.k (λ j. eqb (from l.self.file.now j) s))
+    × ((s : ℕ) → s < max_states → get_or l.has s false ≡ some l.k (λ j. eqb (from l.self.records.file.now j) s))
