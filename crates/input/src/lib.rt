@@ -36,6 +36,7 @@ pub fn read_full<R: Read>(from: &mut R, room: &mut [u8]) -> io::Result<usize>
     ensures failed { OnErr result ((n : ℕ) × Consumes (R.remaining from.old) (R.remaining from.new) (take n room.new)) }
 {
     let mut done = 0;
+    // No counted loop: each read says how many bytes it took, and an iterator over reads would be no plainer.
     while done < room.len() {
         let count = read_some(from, &mut room[done..])?;
         if count == 0 {
