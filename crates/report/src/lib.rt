@@ -20,9 +20,10 @@ pub fn state_count(file: &[u8]) -> usize
     ensures { 5 < length file.now → result ≡ states file.now }
 {
     if file.len() < 6 {
-        return 0;
+        0
+    } else {
+        usize::from(number_at(file, 4))
     }
-    usize::from(number_at(file, 4))
 }
 
 // What the solver says of the states, a place for each.

@@ -68,7 +68,7 @@ impl fmt::Display for Mark {
 #[derive(Clone, Copy)]
 pub struct Move(pub Option<StateNo>);
 
-// How the row of moves says that there is none.
+// How the row of moves says that there is none: a number, since rows of numbers are lent to the solver, from C too.
 const NO_MOVE: u16 = 65535;
 
 impl From<u16> for Move {
