@@ -34,6 +34,7 @@ impl Game {
     pub const MAX_MOVES: usize = 4096;
 
     // The game of no states and no moves: all rows 0.
+    #[tactic(auto, unfolding(crate::specs::Game::empty_game, crate::specs::Rows::blank))]
     pub fn empty() -> Game
         ensures { result ≡ empty_game }
     {
