@@ -1,188 +1,208 @@
 // What is counted over all games, and how it is printed.
-ghost use Rattle.std.specs.Prelude.{◌≡◌, length};
-
-use crate::shape::Shape;
-use crate::sheet::{Sheet, head, how_many, one_if};
-use crate::{examine, follow, sheet};
-use std::io;
+use crate::examine::{PairCheck, RunCheck};
+use crate::pair::Pair;
+use crate::shape::{Family, Objective, Shape, Side};
+use crate::sheet::Sheet;
+use std::fmt::Display;
 use std::io::Write;
+use std::{fmt, io};
 
-// The places of the counts. The first 7 are the games of each family. Then comes what the games are like.
-const GAMES: usize = 7;
-
-const REACH: usize = 8;
-
-const ONE_START: usize = 9;
-
-const EMPTY_TARGET: usize = 10;
-
-const FULL_TARGET: usize = 11;
-
-const ONE_BLOCK_A_CLASS: usize = 12;
-
-const EACH_A_BLOCK: usize = 13;
-
-const STATES: usize = 14;
-
-const MOVES: usize = 15;
-
-// What came out. Of `MOST_SPLITS` and `LONGEST` the largest is kept, and not the sum.
-const WINNERS: usize = 16;
-
-const SAID_YES: usize = 17;
-
-const SAID_NO: usize = 18;
-
-const SAID_OPEN: usize = 19;
-
-const SPLITS: usize = 20;
-
-const MOST_SPLITS: usize = 21;
-
-const LONGEST: usize = 22;
-
-// How often each check failed: those of a run, which are made of the game and of the exchanged game, and those that compare the two.
-const CHECKS: usize = 23;
-
-const EXCHANGE_CHECKS: usize = 37;
-
-pub fn room() -> [u64; 45]
-    ensures { 45 ≡ length result }
-{
-    [0; 45]
+// What the games are like, and what came out.
+#[derive(Clone, Copy)]
+enum Kind {
+    Games,
+    Reach,
+    OneStart,
+    EmptyTarget,
+    FullTarget,
+    OneBlockAClass,
+    EachABlock,
+    States,
+    Moves,
+    Winners,
+    SaidYes,
+    SaidNo,
+    SaidOpen,
+    Splits,
+    MostSplits,
+    Longest,
 }
 
-// Counts a game, whose sheet is `one`; the exchanged game's is `other`.
-pub fn count_game<W: Write>(
+impl Kind {
+    const ALL: [Kind; 16] = [
+        Kind::Games,
+        Kind::Reach,
+        Kind::OneStart,
+        Kind::EmptyTarget,
+        Kind::FullTarget,
+        Kind::OneBlockAClass,
+        Kind::EachABlock,
+        Kind::States,
+        Kind::Moves,
+        Kind::Winners,
+        Kind::SaidYes,
+        Kind::SaidNo,
+        Kind::SaidOpen,
+        Kind::Splits,
+        Kind::MostSplits,
+        Kind::Longest,
+    ];
+
+    // What a game adds.
+    fn amount(self, shape: &Shape, sheet: &Sheet) -> usize {
+        let said = &sheet.said;
+        match self {
+            Kind::Games => 1,
+            Kind::Reach => usize::from(shape.objective == Objective::Reach),
+            Kind::OneStart => usize::from(sheet.starts() == 1),
+            Kind::EmptyTarget => usize::from(sheet.targets() == 0),
+            Kind::FullTarget => usize::from(sheet.targets() == sheet.states()),
+            Kind::OneBlockAClass => usize::from(shape.colours == Some(1)),
+            Kind::EachABlock => usize::from(shape.colours.is_none()),
+            Kind::States => sheet.states(),
+            Kind::Moves => sheet.board.moves(),
+            Kind::Winners => sheet.count(|state| sheet.wins(state)),
+            Kind::SaidYes => usize::from(said.winner() == Some(Side::One)),
+            Kind::SaidNo => usize::from(said.winner() == Some(Side::Two)),
+            Kind::SaidOpen => usize::from(said.is_open()),
+            Kind::Splits | Kind::MostSplits => usize::from(said.splits()),
+            Kind::Longest => usize::from(sheet.longest()),
+        }
+    }
+
+    // Of the most splits and moves the largest is kept, and of the rest the sum.
+    fn joined(self, count: u64, amount: u64) -> u64 {
+        match self {
+            Kind::MostSplits | Kind::Longest => count.max(amount),
+            _ => count.wrapping_add(amount),
+        }
+    }
+}
+
+impl fmt::Display for Kind {
+    fn fmt<W: fmt::Write>(&self, f: &mut fmt::Formatter<W>) -> fmt::Result {
+        f.write_str(match self {
+            Kind::Games => "games in all",
+            Kind::Reach => "games of reach",
+            Kind::OneStart => "games with one start",
+            Kind::EmptyTarget => "games with an empty target",
+            Kind::FullTarget => "games with a full target",
+            Kind::OneBlockAClass => "games with one block for each of the marks",
+            Kind::EachABlock => "games with each state a block",
+            Kind::States => "states",
+            Kind::Moves => "moves",
+            Kind::Winners => "winning states",
+            Kind::SaidYes => "said YES",
+            Kind::SaidNo => "said NO",
+            Kind::SaidOpen => "said OPEN",
+            Kind::Splits => "splits",
+            Kind::MostSplits => "most splits in one game",
+            Kind::Longest => "most moves of a hunt",
+        })
+    }
+}
+
+// What is counted, and how many there were.
+#[derive(Clone, Copy)]
+struct Tally<T> {
+    what: T,
+    count: u64,
+}
+
+impl<T> Tally<T> {
+    fn of(what: T) -> Tally<T> {
+        Tally { what, count: 0 }
+    }
+}
+
+impl<T: Display> Display for Tally<T> {
+    fn fmt<W: fmt::Write>(&self, f: &mut fmt::Formatter<W>) -> fmt::Result {
+        write!(f, "{} {}", self.what, self.count)
+    }
+}
+
+// How many games there are of each family and kind, and how often each check failed: those of a run, which are made of the game and
+// of the exchanged game, and those that compare the two.
+#[derive(Clone, Copy)]
+pub struct Counts {
+    families: [Tally<Family>; 7],
+    kinds: [Tally<Kind>; 16],
+    runs: [Tally<RunCheck>; 14],
+    pairs: [Tally<PairCheck>; 8],
+}
+
+impl Counts {
+    pub fn none() -> Counts {
+        Counts {
+            families: Family::ALL.map(Tally::of),
+            kinds: Kind::ALL.map(Tally::of),
+            runs: RunCheck::ALL.map(Tally::of),
+            pairs: PairCheck::ALL.map(Tally::of),
+        }
+    }
+
+    // Counts a game, and names each check that failed and the game's number.
+    pub fn count_game<W: Write>(
+        &mut self,
+        to: &mut W,
+        shape: &Shape,
+        pair: &Pair,
+    ) -> io::Result<()> {
+        self.count_kinds(shape, &pair.one);
+        for tally in &mut self.runs {
+            let failed = u64::from(!tally.what.holds(&pair.one)).wrapping_add(u64::from(
+                !tally.what.holds(&pair.other),
+            ));
+            fail(to, shape.game, tally, failed)?;
+        }
+        for tally in &mut self.pairs {
+            let failed = u64::from(!tally.what.holds(pair));
+            fail(to, shape.game, tally, failed)?;
+        }
+        Ok(())
+    }
+
+    fn count_kinds(&mut self, shape: &Shape, sheet: &Sheet) {
+        for tally in &mut self.families {
+            let is_of = shape.family == tally.what;
+            tally.count = tally.count.wrapping_add(u64::from(is_of));
+        }
+        for tally in &mut self.kinds {
+            let amount = tally.what.amount(shape, sheet) as u64;
+            tally.count = tally.what.joined(tally.count, amount);
+        }
+    }
+}
+
+fn fail<T: Display, W: Write>(
     to: &mut W,
-    counts: &mut [u64],
-    shape: Shape,
-    one: &Sheet,
-    other: &Sheet,
+    game: u64,
+    tally: &mut Tally<T>,
+    failed: u64,
 ) -> io::Result<()> {
-    let mut which = 0;
-    while which < counts.len() {
-        let amount = amount_of(which, shape, one, other);
-        counts[which] = with_more(counts[which], which, amount);
-        report(to, which, amount, shape.game)?;
-        which += 1;
-    }
-    Ok(())
-}
-
-fn with_more(count: u64, which: usize, amount: u16) -> u64 {
-    let more = amount as u64;
-    match which {
-        MOST_SPLITS => if count < more { more } else { count },
-        LONGEST => if count < more { more } else { count },
-        _ => std::num::wrapping_add_u64(count, more),
-    }
-}
-
-// Names a check that failed and the game's number.
-fn report<W: Write>(to: &mut W, which: usize, amount: u16, game: u64) -> io::Result<()> {
-    if which < CHECKS {
+    tally.count = tally.count.wrapping_add(failed);
+    if failed == 0 {
         return Ok(());
     }
-    if amount == 0 {
-        return Ok(());
-    }
-    write!(to, "game {game}: ")?;
-    print_line(to, which, amount as u64)
-}
-
-// What a game adds to a count.
-fn amount_of(which: usize, shape: Shape, one: &Sheet, other: &Sheet) -> u16 {
-    if which < GAMES {
-        return one_if(shape.family as usize == which);
-    }
-    if which < WINNERS {
-        return amount_of_kind(which, shape, one);
-    }
-    if which < CHECKS {
-        return amount_of_outcome(which, one);
-    }
-    let failed = one_if(!examine::holds(one, other, which - CHECKS));
-    if which < EXCHANGE_CHECKS {
-        failed + one_if(!examine::holds(other, one, which - CHECKS))
-    } else {
-        failed
-    }
-}
-
-fn amount_of_kind(which: usize, shape: Shape, one: &Sheet) -> u16 {
-    let states = head(one, sheet::STATES);
-    match which {
-        GAMES => 1,
-        REACH => one_if(shape.objective == 1),
-        ONE_START => one_if(how_many(one, sheet::STARTS) == 1),
-        EMPTY_TARGET => one_if(how_many(one, sheet::TARGET) == 0),
-        FULL_TARGET => one_if(how_many(one, sheet::TARGET) == states),
-        ONE_BLOCK_A_CLASS => one_if(shape.colours == 1),
-        EACH_A_BLOCK => one_if(shape.colours == 0),
-        STATES => states,
-        MOVES => sheet::at(one, sheet::FIRST, states),
-        _ => 0,
-    }
-}
-
-fn amount_of_outcome(which: usize, one: &Sheet) -> u16 {
-    let word = head(one, sheet::WORD);
-    match which {
-        WINNERS => how_many(one, sheet::WINNERS),
-        SAID_YES => one_if(word == sheet::YES),
-        SAID_NO => one_if(word == sheet::NO),
-        SAID_OPEN => one_if(word == sheet::OPEN),
-        SPLITS => head(one, sheet::SPLITS),
-        MOST_SPLITS => head(one, sheet::SPLITS),
-        LONGEST => follow::longest(one),
-        _ => 0,
-    }
+    writeln!(to, "game {game}: {} {failed}", tally.what)
 }
 
 // One line for each count: its name and its number.
-pub fn print<W: Write>(to: &mut W, counts: &[u64]) -> io::Result<()> {
-    let mut which = 0;
-    while which < counts.len() {
-        print_line(to, which, counts[which])?;
-        which += 1;
+impl Display for Counts {
+    fn fmt<W: fmt::Write>(&self, f: &mut fmt::Formatter<W>) -> fmt::Result {
+        print_all(f, &self.families)?;
+        print_all(f, &self.kinds)?;
+        print_all(f, &self.runs)?;
+        print_all(f, &self.pairs)
     }
-    Ok(())
 }
 
-fn print_line<W: Write>(to: &mut W, which: usize, count: u64) -> io::Result<()> {
-    print_name(to, which)?;
-    writeln!(to, " {count}")
-}
-
-// The names of the counts, in the order of their places.
-fn print_name<W: Write>(to: &mut W, which: usize) -> io::Result<()> {
-    let names = b"tiny games;sparse games;dense games;wide games;chains;folded chains;full games;\
-        games in all;games of reach;games with one start;games with an empty target;games with a full target;\
-        games with one block for each of the marks;games with each state a block;states;moves;\
-        winning states;said YES;said NO;said OPEN;splits;most splits in one game;most moves of a hunt;\
-        files refused;verdicts wrong;named starts wrong;marks wrong;advice missing or not due;advice that is no move;\
-        plans that come too late or never;plans that let the other side have its way;\
-        splits too many;splits not the blocks won;blocks wrong;\
-        open with splits left;open with splits enough;later places touched;\
-        exchanges refused or of another length;exchanges that do not lead back;exchanged winners wrong;\
-        exchanged verdicts wrong;exchanged splits wrong;exchanged blocks wrong;exchanged moves wrong;\
-        exchanged marks wrong";
-    print_part(to, names, which)
-}
-
-// Prints the part of this number; a semicolon ends each part but the last.
-fn print_part<W: Write>(to: &mut W, text: &[u8], number: usize) -> io::Result<()> {
-    let mut part: usize = 0;
-    let mut at = 0;
-    while at < text.len() {
-        let next = at + 1;
-        if text[at] == b';' {
-            part = std::num::wrapping_add_usize(part, 1);
-        } else if part == number {
-            to.write_all(&text[at..next])?;
-        }
-        at = next;
+fn print_all<T: Display, W: fmt::Write>(
+    f: &mut fmt::Formatter<W>,
+    tallies: &[Tally<T>],
+) -> fmt::Result {
+    for tally in tallies {
+        writeln!(f, "{tally}")?;
     }
     Ok(())
 }

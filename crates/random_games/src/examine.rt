@@ -1,292 +1,301 @@
 // The checks of a solved game, and of a game against the exchanged game, over their sheets.
-use crate::sheet::{
-    BLOCK, NONE, SAID_BLOCK, SAID_MARK, SAID_MOVE, SPLITS, STATES, Sheet, WINS, WORD, at, head,
-};
-use crate::{follow, sheet};
+use crate::pair::Pair;
+use crate::said::{BLANK, Mark, Said};
+use crate::shape::Side;
+use crate::sheet::Sheet;
+use sheet_lines::is_blank;
+use solver::Verdict;
+use std::fmt;
 
-// The checks of a run, and then those of a game against the exchanged game.
-pub const REFUSED: usize = 0;
+// What is asked of each solved game.
+#[derive(Clone, Copy)]
+pub enum RunCheck {
+    Refused,
+    Verdict,
+    NamedStart,
+    Marks,
+    AdvicePlace,
+    AdviceMove,
+    PlanLate,
+    PlanBroken,
+    SplitsMany,
+    SplitsBlocks,
+    Blocks,
+    OpenEarly,
+    OpenNeedless,
+    Touched,
+}
 
-pub const VERDICT: usize = 1;
+impl RunCheck {
+    pub const ALL: [RunCheck; 14] = [
+        RunCheck::Refused,
+        RunCheck::Verdict,
+        RunCheck::NamedStart,
+        RunCheck::Marks,
+        RunCheck::AdvicePlace,
+        RunCheck::AdviceMove,
+        RunCheck::PlanLate,
+        RunCheck::PlanBroken,
+        RunCheck::SplitsMany,
+        RunCheck::SplitsBlocks,
+        RunCheck::Blocks,
+        RunCheck::OpenEarly,
+        RunCheck::OpenNeedless,
+        RunCheck::Touched,
+    ];
 
-pub const NAMED_START: usize = 2;
-
-pub const MARKS: usize = 3;
-
-pub const ADVICE_PLACE: usize = 4;
-
-pub const ADVICE_MOVE: usize = 5;
-
-pub const PLAN_LATE: usize = 6;
-
-pub const PLAN_BROKEN: usize = 7;
-
-pub const SPLITS_MANY: usize = 8;
-
-pub const SPLITS_BLOCKS: usize = 9;
-
-pub const BLOCKS: usize = 10;
-
-pub const OPEN_EARLY: usize = 11;
-
-pub const OPEN_NEEDLESS: usize = 12;
-
-pub const TOUCHED: usize = 13;
-
-pub const EXCHANGE: usize = 14;
-
-pub const EXCHANGE_BACK: usize = 15;
-
-pub const EXCHANGED_WINNERS: usize = 16;
-
-pub const EXCHANGED_VERDICT: usize = 17;
-
-pub const EXCHANGED_SPLITS: usize = 18;
-
-pub const EXCHANGED_BLOCKS: usize = 19;
-
-pub const EXCHANGED_MOVES: usize = 20;
-
-pub const EXCHANGED_MARKS: usize = 21;
-
-// A check of a run is asked of the game's sheet, `one`, and a check against the exchanged game of both. What is said of the exchanged
-// run is asked where the game has a single start.
-pub fn holds(one: &Sheet, other: &Sheet, check: usize) -> bool {
-    if check >= EXCHANGED_VERDICT {
-        if sheet::how_many(one, sheet::STARTS) != 1 {
-            return true;
+    pub fn holds(self, sheet: &Sheet) -> bool {
+        match self {
+            RunCheck::Refused => is_accepted(sheet),
+            RunCheck::Verdict => verdict_is_right(sheet),
+            RunCheck::NamedStart => named_start_is_right(sheet),
+            RunCheck::Marks => everywhere(sheet, |state| mark_is_right(sheet, state)),
+            RunCheck::AdvicePlace => everywhere(sheet, |state| advice_is_where_due(sheet, state)),
+            RunCheck::AdviceMove => everywhere(sheet, |state| sheet.plan().advises_a_move(state)),
+            RunCheck::PlanLate => everywhere(sheet, |state| plan_is_in_time(sheet, state)),
+            RunCheck::PlanBroken => everywhere(sheet, |state| plan_is_kept(sheet, state)),
+            RunCheck::SplitsMany => splits_are_few(sheet),
+            RunCheck::SplitsBlocks => splits_are_blocks_won(sheet),
+            RunCheck::Blocks => everywhere(sheet, |state| block_is_right(sheet, state)),
+            RunCheck::OpenEarly => open_is_used_up(sheet),
+            RunCheck::OpenNeedless => open_is_needed(sheet),
+            RunCheck::Touched => later_places_are_blank(&sheet.said, sheet.states()),
         }
     }
-    match check {
-        REFUSED => head(one, sheet::ACCEPTED) == 1,
-        VERDICT => verdict_is_right(one),
-        NAMED_START => named_start_is_right(one),
-        SPLITS_MANY => splits_are_few(one),
-        SPLITS_BLOCKS => splits_are_blocks_won(one),
-        OPEN_EARLY => open_is_used_up(one),
-        OPEN_NEEDLESS => open_is_needed(one),
-        EXCHANGE => head(one, sheet::EXCHANGED) == 1,
-        EXCHANGE_BACK => head(one, sheet::LED_BACK) == 1,
-        EXCHANGED_VERDICT => trades(one, other, WORD, 0),
-        EXCHANGED_SPLITS => is_same(one, other, SPLITS, 0),
-        _ => holds_everywhere(one, other, check),
+}
+
+// How it is said that the check failed.
+impl fmt::Display for RunCheck {
+    fn fmt<W: fmt::Write>(&self, f: &mut fmt::Formatter<W>) -> fmt::Result {
+        f.write_str(match self {
+            RunCheck::Refused => "files refused",
+            RunCheck::Verdict => "verdicts wrong",
+            RunCheck::NamedStart => "named starts wrong",
+            RunCheck::Marks => "marks wrong",
+            RunCheck::AdvicePlace => "advice missing or not due",
+            RunCheck::AdviceMove => "advice that is no move",
+            RunCheck::PlanLate => "plans that come too late or never",
+            RunCheck::PlanBroken => "plans that let the other side have its way",
+            RunCheck::SplitsMany => "splits too many",
+            RunCheck::SplitsBlocks => "splits not the blocks won",
+            RunCheck::Blocks => "blocks wrong",
+            RunCheck::OpenEarly => "open with splits left",
+            RunCheck::OpenNeedless => "open with splits enough",
+            RunCheck::Touched => "later places touched",
+        })
     }
+}
+
+// What is asked of a game and the exchanged game.
+#[derive(Clone, Copy)]
+pub enum PairCheck {
+    Written,
+    LeadsBack,
+    Winners,
+    Verdicts,
+    Splits,
+    Blocks,
+    Moves,
+    Marks,
+}
+
+impl PairCheck {
+    pub const ALL: [PairCheck; 8] = [
+        PairCheck::Written,
+        PairCheck::LeadsBack,
+        PairCheck::Winners,
+        PairCheck::Verdicts,
+        PairCheck::Splits,
+        PairCheck::Blocks,
+        PairCheck::Moves,
+        PairCheck::Marks,
+    ];
+
+    // What is said of the exchanged run is asked where the game has a single start.
+    pub fn holds(self, pair: &Pair) -> bool {
+        match self {
+            PairCheck::Written => pair.is_written,
+            PairCheck::LeadsBack => pair.leads_back,
+            PairCheck::Winners => winners_trade(pair),
+            _ => pair.one.starts() != 1 || self.holds_of_said(pair),
+        }
+    }
+
+    fn holds_of_said(self, pair: &Pair) -> bool {
+        let one = &pair.one.said;
+        let other = &pair.other.said;
+        let states = pair.one.states();
+        match self {
+            PairCheck::Verdicts => verdicts_trade(one, other),
+            PairCheck::Splits => one.splits() == other.splits(),
+            PairCheck::Blocks => one.blocks[..states] == other.blocks[..states],
+            PairCheck::Moves => one.moves[..states] == other.moves[..states],
+            PairCheck::Marks => (0..states).all(|state| marks_trade(one, other, state)),
+            _ => true,
+        }
+    }
+}
+
+// How it is said that the check failed.
+impl fmt::Display for PairCheck {
+    fn fmt<W: fmt::Write>(&self, f: &mut fmt::Formatter<W>) -> fmt::Result {
+        f.write_str(match self {
+            PairCheck::Written => "exchanges refused or of another length",
+            PairCheck::LeadsBack => "exchanges that do not lead back",
+            PairCheck::Winners => "exchanged winners wrong",
+            PairCheck::Verdicts => "exchanged verdicts wrong",
+            PairCheck::Splits => "exchanged splits wrong",
+            PairCheck::Blocks => "exchanged blocks wrong",
+            PairCheck::Moves => "exchanged moves wrong",
+            PairCheck::Marks => "exchanged marks wrong",
+        })
+    }
+}
+
+fn everywhere<P: Fn(usize) -> bool>(sheet: &Sheet, holds: P) -> bool
+    requires { P.IsAlwaysCallable holds }
+{
+    (0..sheet.states()).all(holds)
+}
+
+// An accepted game has a state.
+fn is_accepted(sheet: &Sheet) -> bool {
+    sheet.states() > 0 && sheet.said.verdict.is_ok()
 }
 
 // YES if and only if some start wins; nothing is asked of OPEN.
 fn verdict_is_right(sheet: &Sheet) -> bool {
-    if head(sheet, WORD) == sheet::OPEN {
-        return true;
-    }
-    let some = lowest_start(sheet, WINS, 1) != NONE;
-    some == (head(sheet, WORD) == sheet::YES)
+    let some = lowest_start(sheet, |state| sheet.wins(state)).is_some();
+    sheet.said.is_open() || some == (sheet.said.winner() == Some(Side::One))
 }
 
 // The lowest-numbered sure initial state is named, and wins; for NO and OPEN there is none, and for NO no open one either.
 fn named_start_is_right(sheet: &Sheet) -> bool {
-    let named = head(sheet, sheet::NAMED);
-    if named != lowest_start(sheet, SAID_MARK, 2) {
-        return false;
-    }
-    match head(sheet, WORD) {
-        sheet::NO => lowest_start(sheet, SAID_MARK, 1) == NONE,
-        sheet::OPEN => named == NONE,
-        _ => at(sheet, WINS, named) == 1,
-    }
+    let said = &sheet.said;
+    let sure = lowest_start(sheet, |state| said.mark(state) == Some(Mark::Sure));
+    let open = lowest_start(sheet, |state| said.mark(state) == Some(Mark::Open));
+    let named = said.named();
+    named == sure
+        && match said.verdict {
+            Ok(Verdict::Yes(start, _)) => sheet.wins(usize::from(start.0)),
+            Ok(Verdict::No(_)) => open.is_none(),
+            Ok(Verdict::Open(_)) => named.is_none(),
+            Err(_) => false,
+        }
 }
 
-// The lowest-numbered initial state at which a part holds this value, or `NONE`.
-fn lowest_start(sheet: &Sheet, part: u16, value: u16) -> u16 {
-    let states = head(sheet, STATES);
-    let mut state = 0;
-    while state < states {
-        if at(sheet, part, state) == value {
-            if sheet::is_start(sheet, state) {
-                return state;
-            }
-        }
-        state += 1;
-    }
-    NONE
+// The lowest-numbered initial state of which this holds.
+fn lowest_start<P: Fn(usize) -> bool>(sheet: &Sheet, holds: P) -> Option<usize>
+    requires { P.IsAlwaysCallable holds }
+{
+    (0..sheet.states()).find(|state| sheet.board.is_start(*state) && holds(*state))
 }
 
 // At most the allowance, and at most the states less the blocks at the start.
 fn splits_are_few(sheet: &Sheet) -> bool {
-    if head(sheet, SPLITS) > head(sheet, sheet::ALLOWANCE) {
-        return false;
-    }
-    head(sheet, SPLITS) <= most_splits(sheet)
+    let splits = sheet.said.splits();
+    splits <= sheet.said.allowance && usize::from(splits) <= most_splits(sheet)
 }
 
 // The states less the blocks at the start.
-fn most_splits(sheet: &Sheet) -> u16 {
-    let states = head(sheet, STATES);
-    let blocks = sheet::how_many(sheet, BLOCK);
-    if blocks < states { states - blocks } else { 0 }
+fn most_splits(sheet: &Sheet) -> usize {
+    sheet.states().saturating_sub(sheet.blocks_before())
 }
 
 // The splits are the blocks at the end less the blocks at the start.
 fn splits_are_blocks_won(sheet: &Sheet) -> bool {
-    let before = sheet::how_many(sheet, BLOCK) as u32;
-    let after = sheet::how_many(sheet, SAID_BLOCK) as u32;
-    head(sheet, SPLITS) as u32 + before == after
+    let won = sheet.blocks_after().checked_sub(sheet.blocks_before());
+    won == Some(usize::from(sheet.said.splits()))
 }
 
 // OPEN comes only when the splits made are the allowance.
 fn open_is_used_up(sheet: &Sheet) -> bool {
-    if head(sheet, WORD) != sheet::OPEN {
-        return true;
-    }
-    head(sheet, SPLITS) == head(sheet, sheet::ALLOWANCE)
+    !sheet.said.is_open() || sheet.said.splits() == sheet.said.allowance
 }
 
 // OPEN never comes if the allowance is at least the states less the blocks at the start.
 fn open_is_needed(sheet: &Sheet) -> bool {
-    if head(sheet, WORD) != sheet::OPEN {
-        return true;
-    }
-    head(sheet, sheet::ALLOWANCE) < most_splits(sheet)
-}
-
-// Whether a check holds at every state; for `TOUCHED`, at every later place of the lent rows.
-fn holds_everywhere(one: &Sheet, other: &Sheet, check: usize) -> bool {
-    let states = head(one, STATES);
-    if check == TOUCHED {
-        holds_between(one, other, check, states, sheet::PLACES)
-    } else {
-        holds_between(one, other, check, 0, states)
-    }
-}
-
-fn holds_between(one: &Sheet, other: &Sheet, check: usize, from: u16, end: u16) -> bool {
-    let mut place = from;
-    while place < end {
-        if !holds_at(one, other, check, place) {
-            return false;
-        }
-        place += 1;
-    }
-    true
-}
-
-fn holds_at(one: &Sheet, other: &Sheet, check: usize, state: u16) -> bool {
-    match check {
-        MARKS => mark_is_right(one, state),
-        ADVICE_PLACE => (at(one, SAID_MOVE, state) != NONE) == advice_is_due(one, state),
-        ADVICE_MOVE => advice_is_a_move(one, state),
-        PLAN_LATE => plan_is_in_time(one, state),
-        PLAN_BROKEN => plan_is_kept(one, state),
-        BLOCKS => block_is_right(one, state),
-        TOUCHED => is_blank(one, state),
-        EXCHANGED_WINNERS => !is_same(one, other, WINS, state),
-        EXCHANGED_BLOCKS => is_same(one, other, SAID_BLOCK, state),
-        EXCHANGED_MOVES => is_same(one, other, SAID_MOVE, state),
-        EXCHANGED_MARKS => trades(one, other, SAID_MARK, state),
-        _ => false,
-    }
+    !sheet.said.is_open() || usize::from(sheet.said.allowance) < most_splits(sheet)
 }
 
 // A sure state wins, a never state loses, and there is no other mark than these and open.
-fn mark_is_right(sheet: &Sheet, state: u16) -> bool {
-    match at(sheet, SAID_MARK, state) {
-        0 => at(sheet, WINS, state) == 0,
-        1 => true,
-        2 => at(sheet, WINS, state) == 1,
-        _ => false,
+fn mark_is_right(sheet: &Sheet, state: usize) -> bool {
+    match sheet.said.mark(state) {
+        Some(Mark::Never) => !sheet.wins(state),
+        Some(Mark::Open) => true,
+        Some(Mark::Sure) => sheet.wins(state),
+        None => false,
     }
 }
 
-// Whether the state is marked for the side that wins by the verdict.
-fn is_winners(sheet: &Sheet, state: u16) -> bool {
-    if head(sheet, WORD) == sheet::OPEN {
-        return false;
-    }
-    at(sheet, SAID_MARK, state) == head(sheet, WORD)
+fn advice_is_where_due(sheet: &Sheet, state: usize) -> bool {
+    sheet.said.advised(state).is_some() == advice_is_due(sheet, state)
 }
 
 // A move is due at the states of the winner's that are marked for it, and of those, where the winner hunts, at the ones where the
 // hunt has not ended.
-fn advice_is_due(sheet: &Sheet, state: u16) -> bool {
-    if !is_winners(sheet, state) {
-        return false;
-    }
-    if at(sheet, sheet::TURN, state) != follow::winner(sheet) {
-        return false;
-    }
-    !follow::is_met(sheet, state)
-}
-
-// An advised move is a move of its state.
-fn advice_is_a_move(sheet: &Sheet, state: u16) -> bool {
-    let advised = at(sheet, SAID_MOVE, state);
-    if advised == NONE {
-        return true;
-    }
-    follow::has_move(sheet, state, advised)
+fn advice_is_due(sheet: &Sheet, state: usize) -> bool {
+    let plan = sheet.plan();
+    plan.is_winners(state) && plan.is_winners_turn(state) && !plan.is_met(state)
 }
 
 // From each state that is marked for a winner that hunts, the hunt ends within one move less than there are states.
-fn plan_is_in_time(sheet: &Sheet, state: u16) -> bool {
-    let time = at(sheet, sheet::TIME, state);
-    if !is_winners(sheet, state) {
-        return true;
-    }
-    if !follow::winner_hunts(sheet) {
-        return true;
-    }
-    if time == 0 {
-        return false;
-    }
-    time <= head(sheet, STATES)
+fn plan_is_in_time(sheet: &Sheet, state: usize) -> bool {
+    let plan = sheet.plan();
+    let in_time = match sheet.time(state) {
+        Some(moves) => usize::from(moves) < sheet.states(),
+        None => false,
+    };
+    !plan.is_winners(state) || !plan.winner_hunts() || in_time
 }
 
 // From each state that is marked for the winner the play goes on to such states only, and if the winner does not hunt, none of
 // them is one that the other side hunts for.
-fn plan_is_kept(sheet: &Sheet, state: u16) -> bool {
-    if !is_winners(sheet, state) {
+fn plan_is_kept(sheet: &Sheet, state: usize) -> bool {
+    let plan = sheet.plan();
+    if !plan.is_winners(state) {
         return true;
     }
-    if follow::is_left(sheet, state) {
-        return false;
-    }
-    if follow::winner_hunts(sheet) {
-        return true;
-    }
-    !follow::is_prey(sheet, state)
+    !plan.is_left(state) && (plan.winner_hunts() || !plan.is_prey(state))
 }
 
 // A block's number is its lowest member, and the block lies within one at the start.
-fn block_is_right(sheet: &Sheet, state: u16) -> bool {
-    let block = at(sheet, SAID_BLOCK, state);
-    if block > state {
+fn block_is_right(sheet: &Sheet, state: usize) -> bool {
+    let Some(number) = sheet.said.block(state) else {
         return false;
-    }
-    if at(sheet, SAID_BLOCK, block) != block {
-        return false;
-    }
-    at(sheet, BLOCK, block) == at(sheet, BLOCK, state)
+    };
+    let block = usize::from(number.0);
+    block <= state
+        && sheet.said.block(block) == Some(number)
+        && sheet.board.block(block) == sheet.board.block(state)
 }
 
-fn is_blank(sheet: &Sheet, place: u16) -> bool {
-    if at(sheet, SAID_MARK, place) != sheet::BLANK {
-        return false;
-    }
-    if at(sheet, SAID_BLOCK, place) != sheet::BLANK {
-        return false;
-    }
-    at(sheet, SAID_MOVE, place) == sheet::BLANK
+fn later_places_are_blank(said: &Said, states: usize) -> bool {
+    [&said.marks, &said.blocks, &said.moves]
+        .iter()
+        .all(|row| is_blank(*row, states, &BLANK))
 }
 
-fn is_same(one: &Sheet, other: &Sheet, part: u16, place: u16) -> bool {
-    at(one, part, place) == at(other, part, place)
+// What side 1 wins, side 2 wins of the exchanged game.
+fn winners_trade(pair: &Pair) -> bool {
+    everywhere(
+        &pair.one,
+        |state| pair.one.wins(state) != pair.other.wins(state),
+    )
 }
 
-// YES and NO, and so sure and never, trade places, and what is open stays.
-fn trades(one: &Sheet, other: &Sheet, part: u16, place: u16) -> bool {
-    match at(one, part, place) {
-        0 => at(other, part, place) == 2,
-        1 => at(other, part, place) == 1,
-        2 => at(other, part, place) == 0,
-        _ => false,
-    }
+// YES and NO trade places, and OPEN stays.
+fn verdicts_trade(one: &Said, other: &Said) -> bool {
+    matches!(
+        (one.verdict, other.verdict),
+        (Ok(Verdict::Yes(..)), Ok(Verdict::No(_)))
+            | (Ok(Verdict::No(_)), Ok(Verdict::Yes(..)))
+            | (Ok(Verdict::Open(_)), Ok(Verdict::Open(_)))
+    )
+}
+
+// Sure and never trade places, and open stays.
+fn marks_trade(one: &Said, other: &Said, state: usize) -> bool {
+    let mark = other.mark(state);
+    mark.is_some() && one.mark(state).map(Mark::exchanged) == mark
 }

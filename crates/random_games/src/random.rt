@@ -1,32 +1,74 @@
-// Numbers that look random. Each is worked out from the game's number, a purpose and a place, so every run has the same ones.
-use std::num::{wrapping_add_u16, wrapping_add_u64, wrapping_sub_u16};
+// Numbers that look random. Each is worked out from the game's number, a state, and what it is drawn for, so every run has the same
+// ones.
+ghost use Rattle.std.specs.Prelude.{◌<◌};
 
-// A number below `limit`, and 0 where there is none.
-pub fn below(limit: u16, game: u64, purpose: u16, place: u16) -> u16 {
-    if limit == 0 {
-        return 0;
+// What is drawn: first for a game as a whole, and from `Turn` on for a state. `Moves` and the numbers after it are for the first move
+// of a state, the second, and so on.
+#[derive(Clone, Copy)]
+pub enum Purpose {
+    States = 1,
+    MostMoves = 2,
+    Objective = 3,
+    Turns = 4,
+    Target = 5,
+    Starts = 6,
+    Colours = 7,
+    ColourCount = 8,
+    Allowance = 9,
+    SmallAllowance = 10,
+    Direction = 11,
+    Weakness = 12,
+    Turn = 20,
+    Start = 21,
+    InTarget = 22,
+    Colour = 23,
+    MoveCount = 24,
+    StepBack = 25,
+    HasStepBack = 26,
+    LongStep = 27,
+    FirstStart = 28,
+    Moves = 100,
+}
+
+// What is drawn at a state of the game of this number; for the game as a whole the state is 0.
+#[derive(Clone, Copy)]
+pub struct Draws {
+    pub game: u64,
+    pub state: u16,
+}
+
+impl Draws {
+    // A number below `limit`, and 0 where there is none.
+    pub fn below(self, limit: u16, purpose: Purpose) -> u16 {
+        self.numbered(limit, purpose as u16)
     }
-    let word = ((mixed(key(game, purpose, place)) >> 20) % 65536) as u16;
-    word % limit
-}
 
-// A number from `low` to `high`.
-pub fn between(low: u16, high: u16, game: u64, purpose: u16) -> u16 {
-    let count = wrapping_add_u16(wrapping_sub_u16(high, low), 1);
-    wrapping_add_u16(low, below(count, game, purpose, 0))
-}
+    // A number below `limit` for the move of this number.
+    pub fn below_for_move(self, limit: u16, number: u16) -> u16 {
+        self.numbered(limit, number.wrapping_add(Purpose::Moves as u16))
+    }
 
-// True `times` times in a thousand.
-pub fn chance(times: u16, game: u64, purpose: u16, place: u16) -> bool {
-    below(1000, game, purpose, place) < times
-}
+    // A number from `low` to `high`.
+    pub fn between(self, low: u16, high: u16, purpose: Purpose) -> u16 {
+        let count = high.wrapping_sub(low).wrapping_add(1);
+        low.wrapping_add(self.below(count, purpose))
+    }
 
-// Different for any two that differ in the game, the purpose or the place.
-fn key(game: u64, purpose: u16, place: u16) -> u64 {
-    wrapping_add_u64(
-        game << 32,
-        wrapping_add_u64((purpose as u64) << 16, place as u64),
-    )
+    // True `times` times in a thousand.
+    pub fn chance(self, times: u16, purpose: Purpose) -> bool {
+        self.below(1000, purpose) < times
+    }
+
+    fn numbered(self, limit: u16, number: u16) -> u16 {
+        let word = ((mixed(self.key(number)) >> 20) & 0xffff) as u16;
+        word.checked_rem(limit).unwrap_or(0)
+    }
+
+    // Different for any two that differ in the game, the state or the number.
+    fn key(self, number: u16) -> u64 {
+        let place = (u64::from(number) << 16).wrapping_add(u64::from(self.state));
+        (self.game << 32).wrapping_add(place)
+    }
 }
 
 // Stirs the bits of a key: sums, which carry upwards, take turns with shifts down.
@@ -41,6 +83,8 @@ fn mixed(key: u64) -> u64 {
 }
 
 // `value` moved up by `places` bits and added to `plus`; what does not fit falls away.
-fn plus_shifted(plus: u64, value: u64, places: u32) -> u64 {
-    wrapping_add_u64(plus, value << (places % 64))
+fn plus_shifted(plus: u64, value: u64, places: u32) -> u64
+    requires { places < 64 }
+{
+    plus.wrapping_add(value << places)
 }

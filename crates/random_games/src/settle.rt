@@ -1,51 +1,27 @@
-// Parts of a sheet that are worked out by passes over the states, until a pass changes nothing: who wins, and how long a plan takes.
-use crate::sheet::{NONE, STATES, Sheet, TIME, WINS, at, head, put};
-use crate::{follow, winners};
+// Rows that are worked out by passes over the states, until a pass changes nothing: who wins, and how long a plan takes.
 
-// Gives every state this value in a part, and then goes over the states until nothing changes. In these parts each pass that
-// changes anything settles at least one state for good, so as many passes as there are states are enough.
-pub fn settle(sheet: &mut Sheet, part: u16, value: u16) {
-    begin(sheet, part, value);
-    let states = head(sheet, STATES);
-    let mut passes = 0;
-    while passes < states {
-        if !pass(sheet, part) {
+// Gives each state what it comes to by what the row holds at present, until nothing changes. In the rows here each pass that changes
+// anything settles at least one state for good, so as many passes as there are states are enough.
+pub fn settle<T: Copy + PartialEq, F: Fn(&[T], usize) -> T>(row: &mut [T], renewed: F)
+    requires { F.IsAlwaysCallable renewed }
+{
+    for _ in 0..row.len() {
+        if !pass(row, &renewed) {
             return;
         }
-        passes += 1;
-    }
-}
-
-fn begin(sheet: &mut Sheet, part: u16, value: u16) {
-    let states = head(sheet, STATES);
-    let mut state = 0;
-    while state < states {
-        put(sheet, part, state, value);
-        state += 1;
     }
 }
 
 // Goes over the states, the last one first, and answers whether one changed.
-fn pass(sheet: &mut Sheet, part: u16) -> bool {
+fn pass<T: Copy + PartialEq, F: Fn(&[T], usize) -> T>(row: &mut [T], renewed: &F) -> bool
+    requires { F.IsAlwaysCallable renewed.now }
+{
     let mut changed = false;
-    let mut left = head(sheet, STATES);
-    while left > 0 {
-        left -= 1;
-        let before = at(sheet, part, left);
-        let after = renewed(sheet, part, left);
-        put(sheet, part, left, after);
-        if before != after {
-            changed = true;
-        }
+    for state in (0..row.len()).rev() {
+        let before = row[state];
+        let after = renewed(row, state);
+        row[state] = after;
+        changed |= before != after;
     }
     changed
-}
-
-// What the state comes to by what the part holds at present.
-fn renewed(sheet: &Sheet, part: u16, state: u16) -> u16 {
-    match part {
-        WINS => winners::renewed(sheet, state),
-        TIME => follow::renewed(sheet, state),
-        _ => NONE,
-    }
 }

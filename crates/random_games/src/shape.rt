@@ -1,162 +1,193 @@
 // What kind of game each number stands for.
-use crate::random::{below, between};
+use crate::random::{Draws, Purpose};
+use std::fmt;
 
-// How many games there are, and the first number of each family but the first.
+// How many games there are.
 pub const GAMES: u64 = 2400;
-
-const SPARSE_FROM: u64 = 900;
-
-const DENSE_FROM: u64 = 1500;
-
-const WIDE_FROM: u64 = 2000;
-
-const CHAINS_FROM: u64 = 2150;
-
-const FOLDED_FROM: u64 = 2300;
-
-const FULL_FROM: u64 = 2380;
 
 // The families. Tiny: 1 to 6 states. Sparse: up to 61 states with one move or two each. Dense: up to 64 states, and up to all
 // moves. Wide: 100 to 512 states, and up to 4,096 moves. Chains: 200 to 512 states in a row. Folded: a chain of 50 to 300 states in
 // the fewest blocks that are accepted. Full: 512 states and 4,096 moves.
-pub const TINY: u16 = 0;
+#[derive(Clone, Copy, PartialEq, Eq)]
+pub enum Family {
+    Tiny,
+    Sparse,
+    Dense,
+    Wide,
+    Chains,
+    Folded,
+    Full,
+}
 
-pub const SPARSE: u16 = 1;
+impl Family {
+    pub const ALL: [Family; 7] = [
+        Family::Tiny,
+        Family::Sparse,
+        Family::Dense,
+        Family::Wide,
+        Family::Chains,
+        Family::Folded,
+        Family::Full,
+    ];
 
-pub const DENSE: u16 = 2;
+    fn of(game: u64) -> Family {
+        match game {
+            0..900 => Family::Tiny,
+            900..1500 => Family::Sparse,
+            1500..2000 => Family::Dense,
+            2000..2150 => Family::Wide,
+            2150..2300 => Family::Chains,
+            2300..2380 => Family::Folded,
+            _ => Family::Full,
+        }
+    }
+}
 
-pub const WIDE: u16 = 3;
+impl fmt::Display for Family {
+    fn fmt<W: fmt::Write>(&self, f: &mut fmt::Formatter<W>) -> fmt::Result {
+        f.write_str(match self {
+            Family::Tiny => "tiny games",
+            Family::Sparse => "sparse games",
+            Family::Dense => "dense games",
+            Family::Wide => "wide games",
+            Family::Chains => "chains",
+            Family::Folded => "folded chains",
+            Family::Full => "full games",
+        })
+    }
+}
 
-pub const CHAINS: u16 = 4;
+#[derive(Clone, Copy, PartialEq, Eq)]
+pub enum Side {
+    One = 1,
+    Two = 2,
+}
 
-pub const FOLDED: u16 = 5;
+#[derive(Clone, Copy, PartialEq, Eq)]
+pub enum Objective {
+    Reach = 1,
+    Stay = 2,
+}
 
-pub const FULL: u16 = 6;
+impl Objective {
+    // Side 1 hunts for the target in reach, and side 2 for the states outside it in stay.
+    pub fn hunter(self) -> Side {
+        match self {
+            Objective::Reach => Side::One,
+            Objective::Stay => Side::Two,
+        }
+    }
+}
 
-// What is drawn for a game as a whole.
-const STATES: u16 = 1;
-
-const MOST_MOVES: u16 = 2;
-
-const OBJECTIVE: u16 = 3;
-
-const TURNS: u16 = 4;
-
-const TARGET: u16 = 5;
-
-const STARTS: u16 = 6;
-
-const COLOURS: u16 = 7;
-
-const COLOUR_COUNT: u16 = 8;
-
-const ALLOWANCE: u16 = 9;
-
-const SMALL_ALLOWANCE: u16 = 10;
-
-const DIRECTION: u16 = 11;
-
-const WEAKNESS: u16 = 12;
-
-// A game's number, and what was drawn for it. A state has at most `most_moves` moves. `turns` is 1 or 2 where all states are that
-// side's, and 0 where the side is drawn for each state. `target` and `starts` are out of a thousand. States of the same marks are
-// parted into `colours` blocks; 0 makes each state a block. A chain runs down from the last state where `downward` is 1, and
-// `weakness`, out of a thousand, is how often the side that is hunted can step back in it.
+// A game's number, and what was drawn for it. A state has at most `most_moves` moves. `turns` is the side whose turn it is at all
+// states, if it is not drawn for each. `target` and `starts` are out of a thousand. States of the same marks are parted into
+// `colours` blocks; without it each state is a block. A chain runs down from the last state where it is `downward`, and `weakness`,
+// out of a thousand, is how often the side that is hunted can step back in it.
 #[derive(Clone, Copy)]
 pub struct Shape {
     pub game: u64,
-    pub family: u16,
+    pub family: Family,
     pub states: u16,
     pub most_moves: u16,
-    pub objective: u16,
-    pub turns: u16,
+    pub objective: Objective,
+    pub turns: Option<Side>,
     pub target: u16,
     pub starts: u16,
-    pub colours: u16,
+    pub colours: Option<u16>,
     pub allowance: u16,
-    pub downward: u16,
+    pub downward: bool,
     pub weakness: u16,
 }
 
-pub fn shape_of(game: u64) -> Shape {
-    let family = family_of(game);
-    let states = states_of(family, game);
-    Shape {
-        game,
-        family,
-        states,
-        most_moves: most_moves_of(family, states, game),
-        objective: between(1, 2, game, OBJECTIVE),
-        turns: turns_of(game),
-        target: target_of(game),
-        starts: starts_of(game),
-        colours: colours_of(family, game),
-        allowance: allowance_of(family, game),
-        downward: below(2, game, DIRECTION, 0),
-        weakness: weakness_of(game),
+impl Shape {
+    pub fn of(game: u64) -> Shape {
+        let family = Family::of(game);
+        let draws = Draws { game, state: 0 };
+        let states = states_of(family, draws);
+        Shape {
+            game,
+            family,
+            states,
+            most_moves: most_moves_of(family, states, draws),
+            objective: objective_of(draws),
+            turns: turns_of(draws),
+            target: target_of(draws),
+            starts: starts_of(draws),
+            colours: colours_of(family, draws),
+            allowance: allowance_of(family, draws),
+            downward: draws.below(2, Purpose::Direction) == 1,
+            weakness: weakness_of(draws),
+        }
+    }
+
+    pub fn is_chain(&self) -> bool {
+        matches!(self.family, Family::Chains | Family::Folded)
+    }
+
+    // A chain's far end, and in other games a state that is drawn.
+    pub fn first_start(&self) -> u16 {
+        if self.is_chain() {
+            return if self.downward { self.last() } else { 0 };
+        }
+        let draws = Draws {
+            game: self.game,
+            state: 0,
+        };
+        draws.below(self.states, Purpose::FirstStart)
+    }
+
+    // The end that a chain leads to.
+    pub fn near_end(&self) -> u16 {
+        if self.downward { 0 } else { self.last() }
+    }
+
+    fn last(&self) -> u16 {
+        self.states.wrapping_sub(1)
     }
 }
 
-fn family_of(game: u64) -> u16 {
-    if game < SPARSE_FROM {
-        return TINY;
-    }
-    if game < DENSE_FROM {
-        return SPARSE;
-    }
-    if game < WIDE_FROM {
-        return DENSE;
-    }
-    if game < CHAINS_FROM {
-        return WIDE;
-    }
-    if game < FOLDED_FROM {
-        return CHAINS;
-    }
-    if game < FULL_FROM {
-        return FOLDED;
-    }
-    FULL
-}
-
-fn states_of(family: u16, game: u64) -> u16 {
+fn states_of(family: Family, draws: Draws) -> u16 {
     match family {
-        TINY => between(1, 6, game, STATES),
-        SPARSE => between(2, 61, game, STATES),
-        DENSE => between(2, 64, game, STATES),
-        WIDE => between(100, 512, game, STATES),
-        CHAINS => between(200, 512, game, STATES),
-        FOLDED => between(50, 300, game, STATES),
-        _ => 512,
+        Family::Tiny => draws.between(1, 6, Purpose::States),
+        Family::Sparse => draws.between(2, 61, Purpose::States),
+        Family::Dense => draws.between(2, 64, Purpose::States),
+        Family::Wide => draws.between(100, 512, Purpose::States),
+        Family::Chains => draws.between(200, 512, Purpose::States),
+        Family::Folded => draws.between(50, 300, Purpose::States),
+        Family::Full => 512,
     }
 }
 
 // At most so many that all states together have no more than 4,096.
-fn most_moves_of(family: u16, states: u16, game: u64) -> u16 {
-    if states == 0 {
-        return 1;
-    }
+fn most_moves_of(family: Family, states: u16, draws: Draws) -> u16 {
     match family {
-        TINY => 6,
-        SPARSE => 2,
-        DENSE => 64,
-        WIDE => between(1, 4096 / states, game, MOST_MOVES),
-        FULL => 8,
-        _ => 3,
+        Family::Tiny => 6,
+        Family::Sparse => 2,
+        Family::Dense => 64,
+        Family::Wide => draws.between(1, 4096 / states.max(1), Purpose::MostMoves),
+        Family::Chains | Family::Folded => 3,
+        Family::Full => 8,
     }
 }
 
-fn turns_of(game: u64) -> u16 {
-    match below(6, game, TURNS, 0) {
-        0 => 1,
-        1 => 2,
-        _ => 0,
+fn objective_of(draws: Draws) -> Objective {
+    match draws.between(1, 2, Purpose::Objective) {
+        1 => Objective::Reach,
+        _ => Objective::Stay,
+    }
+}
+
+fn turns_of(draws: Draws) -> Option<Side> {
+    match draws.below(6, Purpose::Turns) {
+        0 => Some(Side::One),
+        1 => Some(Side::Two),
+        _ => None,
     }
 }
 
 // No state, all states, and shares between.
-fn target_of(game: u64) -> u16 {
-    match below(10, game, TARGET, 0) {
+fn target_of(draws: Draws) -> u16 {
+    match draws.below(10, Purpose::Target) {
         0 => 0,
         1 => 1000,
         2 => 500,
@@ -171,8 +202,8 @@ fn target_of(game: u64) -> u16 {
 }
 
 // One start stands in every game; here is how often another state is one too.
-fn starts_of(game: u64) -> u16 {
-    match below(6, game, STARTS, 0) {
+fn starts_of(draws: Draws) -> u16 {
+    match draws.below(6, Purpose::Starts) {
         0 => 50,
         1 => 500,
         2 => 1000,
@@ -181,41 +212,40 @@ fn starts_of(game: u64) -> u16 {
 }
 
 // Long chains are seldom in few blocks, since they take long then.
-fn colours_of(family: u16, game: u64) -> u16 {
-    if family == FOLDED {
-        return 1;
-    }
-    let most = if family == CHAINS { 20 } else { 5 };
-    match below(most, game, COLOURS, 0) {
-        0 => 1,
-        1 => between(2, 4, game, COLOUR_COUNT),
-        2 => between(5, 32, game, COLOUR_COUNT),
-        3 => 1,
-        _ => 0,
+fn colours_of(family: Family, draws: Draws) -> Option<u16> {
+    let most = match family {
+        Family::Folded => return Some(1),
+        Family::Chains => 20,
+        _ => 5,
+    };
+    match draws.below(most, Purpose::Colours) {
+        0 | 3 => Some(1),
+        1 => Some(draws.between(2, 4, Purpose::ColourCount)),
+        2 => Some(draws.between(5, 32, Purpose::ColourCount)),
+        _ => None,
     }
 }
 
-fn allowance_of(family: u16, game: u64) -> u16 {
-    match below(8, game, ALLOWANCE, 0) {
+fn allowance_of(family: Family, draws: Draws) -> u16 {
+    match draws.below(8, Purpose::Allowance) {
         0 => 0,
         1 => 65535,
-        2 => small_allowance(family, game),
-        3 => small_allowance(family, game),
+        2 | 3 => small_allowance(family, draws),
         _ => 511,
     }
 }
 
-fn small_allowance(family: u16, game: u64) -> u16 {
-    match family {
-        TINY => between(1, 2, game, SMALL_ALLOWANCE),
-        SPARSE => between(1, 6, game, SMALL_ALLOWANCE),
-        DENSE => between(1, 6, game, SMALL_ALLOWANCE),
-        _ => between(1, 100, game, SMALL_ALLOWANCE),
-    }
+fn small_allowance(family: Family, draws: Draws) -> u16 {
+    let most = match family {
+        Family::Tiny => 2,
+        Family::Sparse | Family::Dense => 6,
+        _ => 100,
+    };
+    draws.between(1, most, Purpose::SmallAllowance)
 }
 
-fn weakness_of(game: u64) -> u16 {
-    match below(4, game, WEAKNESS, 0) {
+fn weakness_of(draws: Draws) -> u16 {
+    match draws.below(4, Purpose::Weakness) {
         0 => 10,
         _ => 0,
     }

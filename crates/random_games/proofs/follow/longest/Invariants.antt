@@ -1,9 +1,0 @@
--- `random_games::follow::longest` is safe and ends. Nothing has to hold from turn to turn.
-use Rattle.std.proofs.Common.{◌-◌}
-use Rattle.random_games.proofs.follow.longest.Given as goal
-
-abbrev pub invariant-loop-state : goal.invariant-loop-state
-invariant-loop-state l = Unit {0}
-
-abbrev pub decreases-loop-state : goal.decreases-loop-state
-decreases-loop-state l = l.states - l.state

@@ -1,9 +1,0 @@
--- `random_games::run::keep` is safe and ends. Nothing has to hold from turn to turn.
-use Rattle.std.proofs.Common.{◌-◌}
-use Rattle.random_games.proofs.run.keep.Given as goal
-
-abbrev pub invariant-loop-place : goal.invariant-loop-place
-invariant-loop-place l = Unit {0}
-
-abbrev pub decreases-loop-place : goal.decreases-loop-place
-decreases-loop-place l = 600 - l.place

@@ -1,9 +1,0 @@
--- `random_games::winners::is_forced` is safe and ends. Nothing has to hold from turn to turn.
-use Rattle.std.proofs.Common.{◌-◌}
-use Rattle.random_games.proofs.winners.is_forced.Given as goal
-
-abbrev pub invariant-loop-number : goal.invariant-loop-number
-invariant-loop-number l = Unit {0}
-
-abbrev pub decreases-loop-number : goal.decreases-loop-number
-decreases-loop-number l = l.end - l.number
