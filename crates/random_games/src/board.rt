@@ -6,7 +6,8 @@ use decoding::decode;
 use game::{BlockNo, Game, StateNo};
 use std::array;
 
-// A decoded game, and the number of each state's first move, with one place more for the end of the last state's moves.
+// A decoded game, and the number of each state's first move, with one place more for the end of the last state's moves, in a row of
+// fixed size, since nothing is allocated.
 #[derive(Clone, Copy)]
 pub struct Board {
     game: Game,

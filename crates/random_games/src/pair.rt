@@ -3,7 +3,8 @@ use crate::sheet::Sheet;
 use exchange::exchange;
 use input::{FILE_ROOM, filled};
 
-// The sheets of the two games, whether the exchanged file was written, as long as the file, and whether exchanging it leads back.
+// The sheets of the two games, and two answers of yes or no: the exchanged file was written, as long as the file; exchanging it leads
+// back.
 #[derive(Clone, Copy)]
 pub struct Pair {
     pub one: Sheet,

@@ -1,7 +1,5 @@
 // Numbers that look random. Each is worked out from the game's number, a state, and what it is drawn for, so every run has the same
 // ones.
-ghost use Rattle.std.specs.Prelude.{◌<◌};
-
 // What is drawn: first for a game as a whole, and from `Turn` on for a state. `Moves` and the numbers after it are for the first move
 // of a state, the second, and so on.
 #[derive(Clone, Copy)]
@@ -83,8 +81,6 @@ fn mixed(key: u64) -> u64 {
 }
 
 // `value` moved up by `places` bits and added to `plus`; what does not fit falls away.
-fn plus_shifted(plus: u64, value: u64, places: u32) -> u64
-    requires { places < 64 }
-{
-    plus.wrapping_add(value << places)
+fn plus_shifted(plus: u64, value: u64, places: u32) -> u64 {
+    plus.wrapping_add(value.wrapping_shl(places))
 }

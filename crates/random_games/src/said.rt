@@ -39,7 +39,8 @@ impl Mark {
     }
 }
 
-// What the solver says of a file with an allowance, and the three rows that it was lent, with all their places.
+// What the solver says of a file with an allowance, and the three rows that it was lent, with all their places: numbers in rows of
+// fixed size, since `solve` is lent such and nothing is allocated.
 #[derive(Clone, Copy)]
 pub struct Said {
     pub allowance: u16,

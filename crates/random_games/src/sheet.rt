@@ -8,6 +8,7 @@ use crate::said::Said;
 use crate::{follow, winners};
 use game::{BlockNo, Game};
 
+// A row has a place for each state that a game can have, since nothing is allocated.
 #[derive(Clone, Copy)]
 pub struct Sheet {
     pub board: Board,
