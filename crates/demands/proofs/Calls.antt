@@ -69,9 +69,9 @@ exchange_promise f small lent out e = rw e (record {
 })
 
 -- an exchange, and two calls of the solver, the second with the bytes that were written
-pub exchanged_solve_promise : (f : List ℕ) (a : ℕ) (lent lent' : Rows) (out out' : Outcome) (room output : List ℕ) → output ≡ (exchanged f room).output
-    → out ≡ solved f a lent → out' ≡ solved (take (length f) output) a lent' → ExchangedSolvePromise f a lent out room output lent' out'
-exchanged_solve_promise f a lent lent' out out' room output w e e' taken long rows rows' =
+pub exchanged_solve_promise : (f : List ℕ) (a : ℕ) (lent lent' : Rows) (out out' : Outcome) (room output : List ℕ) (count : ℕ) → count ≡ length f
+    → output ≡ (exchanged f room).output → out ≡ solved f a lent → out' ≡ solved (take count output) a lent' → ExchangedSolvePromise f a lent out room output lent' out'
+exchanged_solve_promise f a lent lent' out out' room output count whole w e e' taken long rows rows' =
     let bytes : take (length f) output ≡ exchanged_file f = ap (take (length f)) w ∙ (written f room taken long).1 in
-    let same : out' ≡ solved (exchanged_file f) a lent' = e' ∙ ap (λ (b : List ℕ). solved b a lent') bytes in
+    let same : out' ≡ solved (exchanged_file f) a lent' = e' ∙ ap (λ (b : List ℕ). solved b a lent') (ap (λ (k : ℕ). take k output) whole ∙ bytes) in
     rw (bytes, e, same) (demand3 f taken a lent lent' rows rows')

@@ -1,5 +1,5 @@
 // 01, 'What the contracts settle': any two outcomes that the contract of a public call permits coincide. Each function makes the
-// same call twice, and all that is known of either outcome is the call's own contract.
+// same call twice, and all that is known of either outcome is the call's own contract. Rows are lent one by one, as the calls take them.
 ghost use Rattle.std.specs.Prelude.{◌≡◌};
 ghost use Rattle.exchange.specs.Exchange.{Outcome as Exchange};
 ghost use Rattle.solver.specs.Solve.{Rows, Outcome};

@@ -9,7 +9,7 @@ ghost use Rattle.hvoyanur_c.specs.Pack.{joined, packed, packed_outcome, packed_w
 use file::Refusal;
 use solver::Verdict;
 
-// Stands where no start is named.
+// Stands where no start is named: C has no Option.
 const NO_START: u16 = 65535;
 
 // Three numbers in one: the word above the named number above the splits.
@@ -19,7 +19,7 @@ fn join(word: u8, named: u16, splits: u16) -> u64
     u64::from(word) * 4294967296 + u64::from(named) * 65536 + u64::from(splits)
 }
 
-// An answer as one number.
+// An answer as one number, by the words that C reads.
 fn pack(answer: Result<Verdict, Refusal>) -> u64
     ensures { result ≡ packed answer }
 {
@@ -51,6 +51,7 @@ pub fn hvoyanur_exchange(file: &[u8], out: &mut [u8]) -> u64
     ensures { record { value = result; output = out.new } ≡ packed_writing (exchanged file.now out.old) }
 {
     match exchange::exchange(file, out) {
+        // No From makes a u64 of a usize.
         Ok(length) => 4294967296 + length as u64,
         Err(refusal) => u64::from(refusal.number()),
     }

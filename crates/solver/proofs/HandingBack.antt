@@ -96,16 +96,6 @@ module _ (f : List ℕ) (allowance : ℕ) (lent : Rows) where
 -- ## What is handed back
 
 module _ {g : Game} {side n m objective : ℕ} {turn starts from to block low up : List ℕ} (f : Finished g side n m objective turn starts from to block low up) where
-  -- how many states there are, and how long the rows of the last round
-  pub few : n ≤ max_states
-  few = omega (arith, f.states_is, f.worked.ranged.few-states)
-
-  pub lower_long : n ≤ length low
-  lower_long = omega (arith, f.states_is, f.worked.lower_long)
-
-  pub upper_long : n ≤ length up
-  upper_long = omega (arith, f.states_is, f.worked.upper_long)
-
   -- what the plan is worked out from
   pub planning : Planning g side m turn from to low up
   planning = record {

@@ -22,9 +22,10 @@ mod plan;
 mod written;
 
 // A place for each state, and one for the end of the last state's moves.
-const ENDS: usize = 513;
+const ENDS: usize = Game::MAX_STATES + 1;
 
-// What the solver says of a game: YES with the named start and the splits made, NO or OPEN with the splits.
+// What the solver says of a game: YES with the named start and the splits made, NO or OPEN with the splits. There are three
+// words, so that no Option or Result says them.
 #[derive(Clone, Copy)]
 pub enum Verdict {
     Yes(StateNo, u16),
@@ -32,7 +33,7 @@ pub enum Verdict {
     Open(u16),
 }
 
-// What a round says of its game.
+// What a round says of its game: the word alone, before its splits are counted.
 #[derive(Clone, Copy)]
 pub enum Decision {
     Yes(StateNo),
@@ -66,7 +67,8 @@ fn spoken(decision: Decision, splits: u16) -> Verdict
 }
 
 // The verdict of a run that is over, by the rows of its last round; the marks, the blocks and the plan are written into
-// the three rows, one place per state. The rest keep their content.
+// the three rows, one place per state. The rest keep their content. Here and below the three rows are lent one by one, as
+// `solve` is lent them: a struct of them would need a clause for each row, that it is still the caller's.
 fn hand_back(
     board: &Board<'_>,
     ran: &Ran,
@@ -120,8 +122,8 @@ fn solve_game(
     requires room { (max_states ≤ length marks.old) × (max_states ≤ length blocks.old) × (max_states ≤ length moves.old) }
     ensures { HandedBack (run_of file.now allowance) (record { marks = marks.old; blocks = blocks.old; moves = moves.old }) result (record { marks = marks.new; blocks = blocks.new; moves = moves.new }) }
 {
-    let n = number_at(file, 4) as usize;
-    let m = number_at(file, 6) as usize;
+    let n = usize::from(number_at(file, 4));
+    let m = usize::from(number_at(file, 6));
     let objective = number_at(file, 8);
     let side = rounds::hunting_side(objective);
     let mut turn = [0u8; Game::MAX_STATES];

@@ -16,7 +16,7 @@ use chains::lent::Board;
 use game::Game;
 use rows::sets::Row;
 
-// No move.
+// No move, as callers read it in the row that is handed back: a row of numbers, for C too.
 pub const NONE: u16 = 65535;
 
 // A move that the plan may show: one who hunts goes to an earlier pass, one who flees stays outside.
@@ -46,9 +46,9 @@ fn advice_row(board: &Board<'_>, winner: u8, chase: bool, row: &[u16]) -> Row
 {
     let mut out = [NONE; Game::MAX_STATES];
     for k in 0..board.moves.moves {
-        let f = board.moves.from[k] as usize;
+        let f = usize::from(board.moves.from[k]);
         let next = board.moves.to[k];
-        let t = next as usize;
+        let t = usize::from(next);
         out[f] = better(
             out[f],
             next,

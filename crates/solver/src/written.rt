@@ -7,8 +7,10 @@ ghost use Rattle.game.specs.Game.{marked};
 ghost use Rattle.solver.specs.Work.{mark_no, start_found};
 
 use game::{Game, StateNo, has_mark};
+use rows::sets::Row;
 
-// 2 for sure, 1 for open, 0 for never, by the passes of the hunting side: in a reach game it is side 1.
+// 2 for sure, 1 for open, 0 for never, as callers read them in the row that is handed back; by the passes of the hunting
+// side: in a reach game, objective 1 of the file, it is side 1.
 #[tactic(auto, unfolding(crate::specs::Work::mark_no))]
 fn mark_no(objective: u16, lower: u16, upper: u16) -> u16
     ensures { result ≡ mark_no objective lower upper }
@@ -23,7 +25,7 @@ fn mark_no(objective: u16, lower: u16, upper: u16) -> u16
 }
 
 // The mark of each state.
-pub fn mark_row(n: usize, objective: u16, lower: &[u16], upper: &[u16]) -> [u16; Game::MAX_STATES]
+pub fn mark_row(n: usize, objective: u16, lower: &[u16], upper: &[u16]) -> Row
     requires { (n ≤ max_states) × (n ≤ length lower.now) × (n ≤ length upper.now) }
     ensures { result ≡ fill n (λ s. mark_no objective (get_or lower.now s 0) (get_or upper.now s 0)) (zeros max_states) }
 {

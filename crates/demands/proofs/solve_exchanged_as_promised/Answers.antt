@@ -13,7 +13,7 @@ solve_written-second-requires c =
 pub returns-in-Ok : goal.returns-in-Ok
 returns-in-Ok c =
     let whole = written-length c.args.file.now c.args.out.now c.in-Ok.count (sym (ap (λ (out : Outcome). out.answer) c.in-Ok.ensures)) in
-    exchanged_solve_promise _ _ _ _ _ _ _ _ (ap (λ (out : Outcome). out.output) c.in-Ok.ensures) c.solve-first.ensures (rw whole at c.solve_written-second.ensures)
+    exchanged_solve_promise _ _ _ _ _ _ _ _ _ whole (ap (λ (out : Outcome). out.output) c.in-Ok.ensures) c.solve-first.ensures c.solve_written-second.ensures
 
 pub returns-in-Err : goal.returns-in-Err
 returns-in-Err c = λ taken long rows rows'. absurd (no_refusal c.args.file.now c.args.out.now _ (sym (ap (λ (out : Outcome). out.answer) c.in-Err.ensures)) taken long)

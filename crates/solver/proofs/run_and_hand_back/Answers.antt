@@ -3,15 +3,9 @@ use Rattle.runs.specs.Run.{lowest_first, run}
 use Rattle.solver.proofs.Rowed.{finished, handed_back}
 use Rattle.solver.proofs.run_and_hand_back.Goals as goal
 
-pub run_rounds-ran-requires : goal.run_rounds-ran-requires
-run_rounds-ran-requires c = c.requires.present
-
-pub hand_back-requires : goal.hand_back-requires
-hand_back-requires c =
-    record {
-      finished = ((run lowest_first c.args.allowance c.requires.present.0).last, finished (c.run_rounds-ran.ensures c.requires.present.0 c.requires.present.1));
-      room = c.requires.room;
-    }
+pub hand_back-requires-clause-finished : goal.hand_back-requires-clause-finished
+hand_back-requires-clause-finished c =
+    ((run lowest_first c.args.allowance c.requires.present.0).last, finished (c.run_rounds-ran.ensures c.requires.present.0 c.requires.present.1))
 
 pub returns : goal.returns
 returns c =

@@ -19,9 +19,6 @@ returns-in_err-first_refusal c =
     let long = long-rows _ c.if-marks-lt-MAX_STATES.false c.if-blocks-lt-MAX_STATES.false c.if-moves-lt-MAX_STATES.false in
     rw given (refused-file _ _ _ long _ c.in_err-first_refusal.ensures)
 
-pub solve_game-requires : goal.solve_game-requires
-solve_game-requires c = record { accepted = sym c.in_ok-first_refusal.ensures; room = search rules }
-
 pub returns : goal.returns
 returns c =
     handed _ _ _ (long-rows _ c.if-marks-lt-MAX_STATES.false c.if-blocks-lt-MAX_STATES.false c.if-moves-lt-MAX_STATES.false)

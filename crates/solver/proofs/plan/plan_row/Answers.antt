@@ -12,12 +12,6 @@ use Rattle.solver.proofs.Rules.{winner-rule}
 use Rattle.solver.proofs.Plans.{word_of, planned_by}
 use Rattle.solver.proofs.plan.plan_row.Goals as goal
 
-pub winner_row-requires : goal.winner_row-requires
-winner_row-requires c = record { planning = c.requires; known = tt }
-
-pub winner_row-requires-in-No : goal.winner_row-requires-in-No
-winner_row-requires-in-No c = record { planning = c.requires; known = tt }
-
 pub returns-in-Yes : goal.returns-in-Yes
 returns-in-Yes c = λ g p said s l. c.winner_row.ensures g p s l ∙ winner-rule g one s ∙ planned_by g s _ said YES (ap word_of c.in-Yes.is)
 
