@@ -8,6 +8,7 @@ use Rattle.solver.specs.declared.Verdict.TheVariants.{Yes, No, Open}
 use Rattle.report.specs.declared.words.Mark.{Mark}
 use Rattle.report.specs.declared.words.Mark.TheVariants as mark
 use Rattle.report.specs.declared.words.WrongMark.{WrongMark}
+use Rattle.report.specs.declared.words.StateLine.{StateLine}
 
 -- the number of a mark in the row that the solver fills
 abbrev pub mark_number : Mark → ℕ
@@ -38,3 +39,7 @@ abbrev pub verdict_line : Verdict → List ℕ
 verdict_line (Yes start splits) = codes "YES " ++ (decimal start.0 ++ (codes " " ++ decimal splits))
 verdict_line (No splits) = codes "NO - " ++ decimal splits
 verdict_line (Open splits) = codes "OPEN - " ++ decimal splits
+
+-- a state's number, its mark, its block and its move
+abbrev pub state_line : StateLine → List ℕ
+state_line line = decimal line.state ++ (codes " " ++ (mark_word line.mark ++ (codes " " ++ (decimal line.block ++ (codes " " ++ move_word line.to.0)))))

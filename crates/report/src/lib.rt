@@ -10,7 +10,7 @@ use file::number_at;
 use game::Game;
 use std::io;
 use std::io::Write;
-use words::{Mark, Move, VerdictLine};
+use words::{Mark, Move, StateLine, VerdictLine};
 
 /// What stands above the lines of the states.
 pub const HEADING: &str = "state mark block move";
@@ -51,9 +51,13 @@ impl Rows {
             .zip(self.blocks.iter())
             .zip(self.moves.iter());
         for (state, ((mark, block), to)) in places.take(count).enumerate() {
-            let mark = Mark::try_from(*mark).unwrap_or(Mark::Never);
-            let to = Move::from(*to);
-            writeln!(out, "{state} {mark} {block} {to}")?;
+            let line = StateLine {
+                state,
+                mark: Mark::try_from(*mark).unwrap_or(Mark::Never),
+                block: *block,
+                to: Move::from(*to),
+            };
+            writeln!(out, "{line}")?;
         }
         Ok(())
     }

@@ -1,6 +1,6 @@
-// The words of an answer: of a verdict, of a state's mark and of its move.
+// The words of an answer: of a verdict, of a state's mark and of its move, and of a state's line.
 ghost use Rattle.std.specs.Prelude.{◌≡◌, Some};
-ghost use Rattle.report.specs.Words.{NamesMark, mark_word, move_of, move_word, verdict_line};
+ghost use Rattle.report.specs.Words.{NamesMark, mark_word, move_of, move_word, state_line, verdict_line};
 
 use game::StateNo;
 use solver::Verdict;
@@ -94,5 +94,28 @@ impl fmt::Display for Move {
                 write!(f, "{to}")
             }
         }
+    }
+}
+
+/// The line of a state.
+#[derive(Clone, Copy)]
+pub struct StateLine {
+    pub state: usize,
+    pub mark: Mark,
+    pub block: u16,
+    pub to: Move,
+}
+
+impl fmt::Display for StateLine {
+    ghost output = { λ line. Some (state_line line) };
+
+    fn fmt<W: fmt::Write>(&self, f: &mut fmt::Formatter<W>) -> fmt::Result {
+        let StateLine {
+            state,
+            mark,
+            block,
+            to,
+        } = *self;
+        write!(f, "{state} {mark} {block} {to}")
     }
 }

@@ -1,6 +1,6 @@
 // The lines of a case: what the solver makes of a file, and whether the rest of the lent rows is untouched.
 use input::filled;
-use report::words::{Mark, Move, VerdictLine};
+use report::words::{Mark, Move, StateLine, VerdictLine};
 use report::{HEADING, state_count};
 use sheet_lines::{fitting, is_blank};
 use std::io;
@@ -75,7 +75,15 @@ impl<'a> Rows<'a> {
         for (state, ((mark, block), planned)) in places.take(count).enumerate() {
             let planned = Move::from(*planned);
             match Mark::try_from(*mark) {
-                Ok(mark) => writeln!(to, "{state} {mark} {block} {planned}")?,
+                Ok(mark) => {
+                    let line = StateLine {
+                        state,
+                        mark,
+                        block: *block,
+                        to: planned,
+                    };
+                    writeln!(to, "{line}")?;
+                }
                 Err(_) => writeln!(to, "{state} WRONG {block} {planned}")?,
             }
         }
