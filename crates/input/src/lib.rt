@@ -18,13 +18,6 @@ pub fn filled<T: Copy, const N: usize>(value: T) -> [T; N]
     [value; N]
 }
 
-// As many zeros.
-pub fn large_buffer() -> [u8; FILE_ROOM]
-    ensures { 65536 ≡ length result }
-{
-    filled(0)
-}
-
 // Reads until `room` is full or the input ends, and answers how many bytes stand at the start of `room`. With `in_bounds` and
 // `taken`, `&room[..n]` is proved with no proof file. What was read before a failure stands at the start of `room` too, as `failed`
 // says of a reader whose bytes are known.
