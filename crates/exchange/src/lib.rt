@@ -8,7 +8,8 @@ ghost use Rattle.exchange.specs.Bytes.{exchanged_byte};
 
 use file::{Refusal, first_refusal, number_at};
 
-// The other of 1 and 2: of the two turns, and of the two objectives.
+// The other of 1 and 2: of the two turns, and of the two objectives. Turns, objectives and marks are bytes of the file
+// here, and stay so: `exchanged_byte` is said of every byte.
 fn other(number: u8) -> u8
     ensures { result ≡ other number }
 {

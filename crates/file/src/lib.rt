@@ -142,7 +142,8 @@ fn state_fault(file: &[u8], s: usize) -> Result<(), Refusal>
     state_fields(file, s)
 }
 
-// Where the record of move k stands, in a file of n states.
+// Where the record of move k stands, in a file of n states. The file and n stay parameters: it is public, and
+// docs/DECISIONS.md names it.
 #[tactic(auto, unfolding(crate::specs::Layout::move_at))]
 pub fn move_at(file: &[u8], n: usize, k: usize) -> usize
     requires { (n ≡ states file.now) × (n ≤ max_states) × (k ≤ max_moves) }

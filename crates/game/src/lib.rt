@@ -51,7 +51,7 @@ impl Game {
     }
 }
 
-// The marks of a state hold this one: 1 initial, 2 target.
+// The marks of a state hold this one: 1 initial, 2 target. Both stay numbers: `marked` is said of every number.
 pub fn has_mark(mark: u8, marks: u8) -> bool
     ensures { result ≡ marked mark marks }
 {
