@@ -1,10 +1,10 @@
 -- What each step of a growth does to the rows that travel together.
-use Rattle.std.specs.Prelude.{ℕ, ◌≡◌, List, get_or}
+use Rattle.std.specs.Prelude.{ℕ, ◌≡◌, List}
 use Rattle.arena.specs.Sets.{Set}
 use Rattle.chains.specs.declared.lent.Members.{Members}
-use Rattle.chains.specs.Lent.{Holds, Linked}
+use Rattle.chains.specs.Lent.{Linked}
 use Rattle.growth.specs.declared.Growth.{Growth}
-use Rattle.growth.specs.Net.{Net, hits_of}
+use Rattle.growth.specs.Net.{Net}
 use Rattle.growth.specs.Queue.{Listed, Joined, Handled, Passing}
 
 -- the members of each block are chained
@@ -14,11 +14,6 @@ Chains n block members = Linked n n block members.last.now members.before.now
 -- the queue lists the row
 abbrev pub ListedIn : ℕ → Growth → List ℕ → Type 0
 ListedIn n growth row = Listed n row growth.queue.now growth.tail
-
--- the members of each block that have as many moves as they need are counted, and the rest stands
-abbrev pub HitsBy : ℕ → List ℕ → List ℕ → Growth → Growth → Type 0
-HitsBy n block need was growth =
-    Holds n growth.hit.now (hits_of n block need (λ s. get_or was.have.now s 0)) × (growth.have.now ≡ was.have.now) × (growth.queue.now ≡ was.queue.now) × (growth.tail ≡ was.tail)
 
 -- the states of J that were outside have joined with this number, and what was counted stands
 abbrev pub JoinedBy : ℕ → Set → ℕ → Growth → List ℕ → Growth → List ℕ → Type 0

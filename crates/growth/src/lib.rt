@@ -21,8 +21,8 @@ pub use enter::list_states;
 use passes::run_passes;
 use ripe::{count_hits, join_ripe};
 
-// A set that grows: how many moves into it each state has, how many members of each block have as many as they need, and the queue of its
-// states in the order in which they entered, with its end.
+// A set that grows: how many moves into it each state has, how many members of each block have as many as they need, and the
+// queue of its states in the order in which they entered, with its end.
 #[derive(Drop)]
 pub struct Growth<'a> {
     pub have: &'a mut [u16],
@@ -48,8 +48,10 @@ pub fn grow(
     ensures stamped { (g : Game) (side : ℕ) → MovesOf g side moves.now block.now → Holds moves.now.states row.new (stamp_from (joining g side whole) (pass_at row.old) moves.now.states) }
 {
     let entered = growth.tail;
-    clear(moves.states, growth.hit);
-    count_hits(moves.states, block, moves.need, growth);
+    let have = &mut *growth.have;
+    let hit = &mut *growth.hit;
+    clear(moves.states, hit);
+    count_hits(moves.states, block, moves.need, have, hit);
     join_ripe(moves.states, whole, block, members, growth, row);
     run_passes(moves, whole, handled, entered, block, members, growth, row);
 }
@@ -70,6 +72,15 @@ pub fn grow_on(
     ensures stamped { (g : Game) (side : ℕ) → MovesOf g side moves.now block.now → Holds moves.now.states row.new (stamp_from (joining g side true) (pass_at row.old) moves.now.states) }
 {
     let entered = growth.tail;
-    join_block(moves.states, b, 2, block, members, growth, row);
+    growth.tail = join_block(
+        moves.states,
+        b,
+        2,
+        block,
+        members,
+        row,
+        growth.queue,
+        entered,
+    );
     run_passes(moves, true, entered, entered, block, members, growth, row);
 }

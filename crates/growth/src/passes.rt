@@ -27,23 +27,29 @@ fn walk(
     requires { Sound (net_of moves.now whole block.now members.now) × Chained moves.now × Chains moves.now.states block.now members.now × (q < growth.old.tail) × (1 ≤ number) × HandledBy (net_of moves.now whole block.now members.now) (pass_at row.old) number q growth.old.queue.now growth.old row.old }
     ensures { HandledBy (net_of moves.now whole block.now members.now) (pass_at row.old) number (q + 1) growth.old.queue.now growth.new row.new × (growth.old.tail ≤ growth.new.tail) × Alike growth.old.tail growth.new.queue.now growth.old.queue.now }
 {
-    let c = growth.queue[q] as usize;
+    // Each row is named once: after a write through a struct the places of all its rows would be fetched anew.
+    let have = &mut *growth.have;
+    let hit = &mut *growth.hit;
+    let queue = &mut *growth.queue;
+    let mut tail = growth.tail;
+    let c = queue[q] as usize;
     let mut at = moves.last[c] as usize;
     while at > 0 {
         let e = at - 1;
         let f = moves.from[e] as usize;
-        let more = growth.have[f] + 1;
-        growth.have[f] = more;
+        let more = have[f] + 1;
+        have[f] = more;
         if more == moves.need[f] {
             let b = block[f] as usize;
-            let met = growth.hit[b] + 1;
-            growth.hit[b] = met;
+            let met = hit[b] + 1;
+            hit[b] = met;
             if met == enough(whole, members.size[b]) {
-                join_block(moves.states, b, number, block, members, growth, row);
+                tail = join_block(moves.states, b, number, block, members, row, queue, tail);
             }
         }
         at = moves.before[e] as usize;
     }
+    growth.tail = tail;
 }
 
 // The passes over the queue from place `first` on, of which those before `entered` had entered before, until a pass adds
@@ -61,13 +67,15 @@ pub fn run_passes(
     requires { Sound (net_of moves.now whole block.now members.now) × Chained moves.now × Chains moves.now.states block.now members.now × ((f : ℕ → ℕ) × PassingBy (net_of moves.now whole block.now members.now) f 0 entered first growth.old row.old) }
     ensures { GrownBy (net_of moves.now whole block.now members.now) growth.new row.new × ((f : ℕ → ℕ) → PassingBy (net_of moves.now whole block.now members.now) f 0 entered first growth.old row.old → Holds moves.now.states row.new (pass_of (net_of moves.now whole block.now members.now) f moves.now.states)) }
 {
+    // A copy of its own, whose rows no write can move.
+    let moves = *moves;
     let mut start = first;
     let mut end = entered;
     let mut pass: usize = 0;
     loop {
         let number = (pass + 2) as u16;
         for q in start..end {
-            walk(moves, whole, q, number, block, members, growth, row);
+            walk(&moves, whole, q, number, block, members, growth, row);
         }
         if end >= growth.tail {
             return;

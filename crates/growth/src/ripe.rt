@@ -3,21 +3,21 @@ ghost use Rattle.std.specs.Prelude.{◌≡◌, cond, ◌&&◌, ℕ, ◌≤◌, l
 ghost use Rattle.game.specs.Limits.{max_states};
 ghost use Rattle.chains.specs.Lent.{Holds, Keys};
 ghost use Rattle.chains.specs.Grouped.{MembersOf};
-ghost use Rattle.growth.specs.Net.{ripe_by};
-ghost use Rattle.growth.specs.Steps.{ListedIn, HitsBy, JoinedBy};
+ghost use Rattle.growth.specs.Net.{hits_of, ripe_by};
+ghost use Rattle.growth.specs.Steps.{ListedIn, JoinedBy};
 
 use crate::Growth;
 use crate::enter::join_block;
 use chains::lent::Members;
 
 // How many members of each block have the moves that they need.
-pub fn count_hits(n: usize, block: &[u16], need: &[u16], growth: &mut Growth<'_>)
-    requires { (n ≤ max_states) × Keys n n block.now × (n ≤ length need.now) × (n ≤ length growth.old.have.now) × Holds n growth.old.hit.now (λ _. 0) }
-    ensures { HitsBy n block.now need.now growth.old growth.new }
+pub fn count_hits(n: usize, block: &[u16], need: &[u16], have: &[u16], hit: &mut [u16])
+    requires { (n ≤ max_states) × Keys n n block.now × (n ≤ length need.now) × (n ≤ length have.now) × Holds n hit.old (λ _. 0) }
+    ensures { Holds n hit.new (hits_of n block.now need.now (λ s. get_or have.now s 0)) }
 {
     for s in 0..n {
-        if growth.have[s] >= need[s] {
-            growth.hit[block[s] as usize] += 1;
+        if have[s] >= need[s] {
+            hit[block[s] as usize] += 1;
         }
     }
 }
@@ -48,9 +48,14 @@ pub fn join_ripe(
     requires { (n ≤ max_states) × Keys n n block.now × MembersOf n block.now members.now × (n ≤ length growth.old.hit.now) × (n ≤ length row.old) × ListedIn n growth.old row.old }
     ensures { JoinedBy n (λ s. ripe_by whole members.now.size.now growth.old.hit.now (get_or block.now s 0)) 2 growth.old row.old growth.new row.new }
 {
+    let size = &*members.size;
+    let hit = &mut *growth.hit;
+    let queue = &mut *growth.queue;
+    let mut tail = growth.tail;
     for b in 0..n {
-        if is_ripe(whole, members.size[b], growth.hit[b]) {
-            join_block(n, b, 2, block, members, growth, row);
+        if is_ripe(whole, size[b], hit[b]) {
+            tail = join_block(n, b, 2, block, members, row, queue, tail);
         }
     }
+    growth.tail = tail;
 }

@@ -7,16 +7,16 @@ use Rattle.growth.proofs.enter.join_block.Goals as goal
 use Rattle.growth.proofs.enter.join_block.Goals.{then-row-s-eq0, else-row-s-eq0}
 
 pub loop-at-init : goal.loop-at-init
-loop-at-init c = (join_begins c.requires.3 c.requires.1 c.requires.4 c.requires.5, refl, refl, refl, refl)
+loop-at-init c = (join_begins c.requires.3 c.requires.1 c.requires.4 c.requires.5, refl, refl)
 
-pub offset_bounds-growth-growth : goal.offset_bounds-growth-growth
-offset_bounds-growth-growth c = let r = chain_room c.requires.0 c.loop-at.invariant.0 c.loop-at-test.true c.if-row-s-eq0.true in omega arith
+pub offset_bounds-queue-end : goal.offset_bounds-queue-end
+offset_bounds-queue-end c = let r = chain_room c.requires.0 c.loop-at.invariant.0 c.loop-at-test.true c.if-row-s-eq0.true in omega arith
 
-pub bounds-growth-growth : goal.bounds-growth-growth
-bounds-growth-growth c = let r = chain_room c.requires.0 c.loop-at.invariant.0 c.loop-at-test.true c.if-row-s-eq0.true in omega arith
+pub bounds-queue-end : goal.bounds-queue-end
+bounds-queue-end c = (chain_room c.requires.0 c.loop-at.invariant.0 c.loop-at-test.true c.if-row-s-eq0.true).in_queue
 
-pub overflow_add-growth : goal.overflow_add-growth
-overflow_add-growth c = let r = chain_room c.requires.0 c.loop-at.invariant.0 c.loop-at-test.true c.if-row-s-eq0.true in omega arith
+pub overflow_add-end : goal.overflow_add-end
+overflow_add-end c = let r = chain_room c.requires.0 c.loop-at.invariant.0 c.loop-at-test.true c.if-row-s-eq0.true in omega arith
 
 pub loop-at-smaller : goal.loop-at-smaller
 loop-at-smaller c = join_less c.requires.3 c.loop-at.invariant.0 c.loop-at-test.true
@@ -27,18 +27,6 @@ loop-at-preserved c =
     let left = c.loop-at-test.true in
     let linked = c.requires.3 in
     elim c.if-row-s-eq0.branch [
-      | then-row-s-eq0 w ↦ rw (w.row-is, w.growth-is) (
-        join_take linked inv.0 left c.requires.2 refl refl refl w.if-row-s-eq0.true,
-        simp length-set inv.1,
-        simp length-set inv.2,
-        inv.3,
-        inv.4,
-      )
-      | else-row-s-eq0 w ↦ rw (w.row-is, w.growth-is) (
-        join_skip linked inv.0 left refl refl refl w.if-row-s-eq0.false,
-        inv.1,
-        inv.2,
-        inv.3,
-        inv.4,
-      )
+      | then-row-s-eq0 w ↦ rw (w.row-is, w.queue-is, w.end-is) (join_take linked inv.0 left c.requires.2 refl refl refl w.if-row-s-eq0.true, simp length-set inv.1, simp length-set inv.2)
+      | else-row-s-eq0 w ↦ rw (w.row-is, w.queue-is, w.end-is) (join_skip linked inv.0 left refl refl refl w.if-row-s-eq0.false, inv.1, inv.2)
     ]

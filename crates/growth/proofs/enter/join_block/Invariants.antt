@@ -6,11 +6,7 @@ use Rattle.growth.proofs.enter.join_block.Given as goal
 
 abbrev pub invariant-loop-at : goal.invariant-loop-at
 invariant-loop-at l =
-    Joining l.n l.block l.b l.number l.initial.row l.initial.growth.queue.now l.initial.growth.tail l.row l.growth.queue.now l.growth.tail l.at
-    × (length l.row ≡ length l.initial.row)
-    × (length l.growth.queue.now ≡ length l.initial.growth.queue.now)
-    × (l.growth.have ≡ l.initial.growth.have)
-    × (l.growth.hit ≡ l.initial.growth.hit)
+    Joining l.n l.block l.b l.number l.initial.row l.initial.queue l.tail l.row l.queue l.end l.at × (length l.row ≡ length l.initial.row) × (length l.queue ≡ length l.initial.queue)
 
 abbrev pub decreases-loop-at : goal.decreases-loop-at
 decreases-loop-at l = l.at

@@ -4,11 +4,11 @@ use Rattle.growth.proofs.Walking.{beginning, walk_begins, turning, step_quiet, s
 use Rattle.growth.proofs.passes.walk.Goals as goal
 use Rattle.growth.proofs.passes.walk.Goals.{then-more-moves+then-met-enough, then-more-moves+else-met-enough, else-more-moves}
 
-pub offset_bounds-growth-q : goal.offset_bounds-growth-q
-offset_bounds-growth-q c = (beginning c.requires.0 c.requires.1 c.args.q c.requires.3 c.requires.5).place_offset
+pub offset_bounds-queue-q : goal.offset_bounds-queue-q
+offset_bounds-queue-q c = (beginning c.requires.0 c.requires.1 c.args.q c.requires.3 c.requires.5).place_offset
 
-pub bounds-growth-q : goal.bounds-growth-q
-bounds-growth-q c = (beginning c.requires.0 c.requires.1 c.args.q c.requires.3 c.requires.5).place
+pub bounds-queue-q : goal.bounds-queue-q
+bounds-queue-q c = (beginning c.requires.0 c.requires.1 c.args.q c.requires.3 c.requires.5).place
 
 pub loop-at-init : goal.loop-at-init
 loop-at-init c = turning c.requires.0 c.requires.1 (walk_begins c.requires.0 c.requires.1 c.args.q c.requires.3 c.requires.5)
@@ -18,11 +18,11 @@ loop-at-preserved c =
     let inv = c.loop-at.invariant in
     let left = c.loop-at-test.true in
     elim c.if-more-moves.branch [
-      | then-more-moves+then-met-enough w ↦ rw (w.row-is, w.growth-is)
-          (turning c.requires.0 c.requires.1 (rw (w.join_block.ensures.1, w.join_block.ensures.2) (step_join c.requires.0 c.requires.1 inv.0 left refl refl w.if-more-moves.true c.requires.4 (w.if-met-enough.true ∙ w.enough.ensures) w.join_block.ensures.0)))
-      | then-more-moves+else-met-enough w ↦ rw (w.row-is, w.growth-is)
+      | then-more-moves+then-met-enough w ↦ rw (w.hit-is, w.row-is, w.queue-is, w.tail-is)
+          (turning c.requires.0 c.requires.1 (step_join c.requires.0 c.requires.1 inv.0 left refl refl w.if-more-moves.true c.requires.4 (w.if-met-enough.true ∙ w.enough.ensures) w.join_block-tail.ensures))
+      | then-more-moves+else-met-enough w ↦ rw (w.hit-is, w.row-is, w.queue-is, w.tail-is)
           (turning c.requires.0 c.requires.1 (step_hit c.requires.0 c.requires.1 inv.0 left refl refl w.if-more-moves.true refl refl refl (λ z. w.if-met-enough.false (z ∙ sym w.enough.ensures))))
-      | else-more-moves w ↦ rw (w.row-is, w.growth-is)
+      | else-more-moves w ↦ rw (w.hit-is, w.row-is, w.queue-is, w.tail-is)
           (turning c.requires.0 c.requires.1 (step_quiet c.requires.0 c.requires.1 inv.0 left refl refl refl refl refl w.if-more-moves.false))
     ]
 

@@ -8,8 +8,8 @@ use Rattle.growth.proofs.passes.walk.Given as goal
 
 abbrev pub invariant-loop-at : goal.invariant-loop-at
 invariant-loop-at l =
-    (Walking (net l.moves.states l.moves.moves l.whole l.moves.from.now l.moves.to.now l.moves.need.now l.block l.members.size.now) (pass_at l.initial.row) l.number l.q l.initial.growth.tail l.initial.growth.queue.now l.c l.growth.have.now l.growth.hit.now l.row l.growth.queue.now l.growth.tail l.at
-    × (0 < l.at → Turn (net l.moves.states l.moves.moves l.whole l.moves.from.now l.moves.to.now l.moves.need.now l.block l.members.size.now) l.moves.before.now l.growth.have.now l.growth.hit.now l.at))
+    (Walking (net l.moves.states l.moves.moves l.whole l.moves.from.now l.moves.to.now l.moves.need.now l.block l.members.size.now) (pass_at l.initial.row) l.number l.q l.initial.tail l.initial.queue l.c l.have l.hit l.row l.queue l.tail l.at
+    × (0 < l.at → Turn (net l.moves.states l.moves.moves l.whole l.moves.from.now l.moves.to.now l.moves.need.now l.block l.members.size.now) l.moves.before.now l.have l.hit l.at))
 
 abbrev pub decreases-loop-at : goal.decreases-loop-at
 decreases-loop-at l = l.at

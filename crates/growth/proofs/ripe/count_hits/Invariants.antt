@@ -8,9 +8,4 @@ use Rattle.growth.proofs.ripe.count_hits.Given as goal
 
 abbrev pub invariant-loop-s : goal.invariant-loop-s
 invariant-loop-s l =
-    (l.s ≤ l.n)
-    × Holds l.n l.growth.hit.now (hits_of l.s l.block l.need (λ t. get_or l.growth.have.now t 0))
-    × (length l.growth.hit.now ≡ length l.initial.growth.hit.now)
-    × (l.growth.have ≡ l.initial.growth.have)
-    × (l.growth.queue ≡ l.initial.growth.queue)
-    × (l.growth.tail ≡ l.initial.growth.tail)
+    (l.s ≤ l.n) × Holds l.n l.hit (hits_of l.s l.block l.need (λ t. get_or l.have t 0)) × (length l.hit ≡ length l.initial.hit)
