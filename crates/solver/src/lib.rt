@@ -7,7 +7,7 @@ ghost use Rattle.game.specs.declared.Game.{Game};
 ghost use Rattle.runs.specs.Run.{lowest_first, run};
 ghost use Rattle.solver.specs.Solve.{said, run_of, solved};
 ghost use Rattle.solver.specs.Work.{decision_by, HandedBack};
-ghost use Rattle.solver.specs.Grouped.{FinishedOn};
+ghost use Rattle.solver.specs.Grouped.{FinishedOn, SameRows, rows_of};
 ghost use Rattle.rows.specs.Grouped.{PresentOn};
 ghost use Rattle.file.specs.Refusals.{refusal};
 ghost use Rattle.decoding.specs.Decode.{game_of};
@@ -16,8 +16,10 @@ use chains::copy_row;
 use chains::lent::{Board, Moves};
 use file::{Refusal, first_refusal, number_at};
 use game::{Game, StateNo};
+use lent::Rows;
 use outcome::Ran;
 
+mod lent;
 mod plan;
 mod written;
 
@@ -67,27 +69,19 @@ fn spoken(decision: Decision, splits: u16) -> Verdict
 }
 
 // The verdict of a run that is over, by the rows of its last round; the marks, the blocks and the plan are written into
-// the three rows, one place per state. The rest keep their content. Here and below the three rows are lent one by one, as
-// `solve` is lent them: a struct of them would need a clause for each row, that it is still the caller's.
-fn hand_back(
-    board: &Board<'_>,
-    ran: &Ran,
-    block: &[u16],
-    marks: &mut [u16],
-    blocks: &mut [u16],
-    moves: &mut [u16],
-) -> Verdict
-    requires finished { (g : Game) × FinishedOn g board.now block.now ran.now.lower ran.now.upper }
-    requires room { (max_states ≤ length marks.old) × (max_states ≤ length blocks.old) × (max_states ≤ length moves.old) }
-    ensures { (g : Game) → FinishedOn g board.now block.now ran.now.lower ran.now.upper → HandedBack (record { splits = ran.now.splits; last = g }) (record { marks = marks.old; blocks = blocks.old; moves = moves.old }) result (record { marks = marks.new; blocks = blocks.new; moves = moves.new }) }
+// the three rows, one place per state. The rest keep their content.
+fn hand_back(board: &Board<'_>, ran: &Ran, block: &[u16], rows: &mut Rows<'_>) -> Verdict
+    requires { (g : Game) × FinishedOn g board.now block.now ran.now.lower ran.now.upper }
+    ensures back { (g : Game) → FinishedOn g board.now block.now ran.now.lower ran.now.upper → HandedBack (record { splits = ran.now.splits; last = g }) (rows_of rows.old) result (rows_of rows.new) }
+    ensures same { SameRows rows.old rows.new }
 {
     let n = board.moves.states;
     let worked = written::mark_row(n, board.objective, &ran.lower, &ran.upper);
     let decision = decide(n, board.starts, &worked);
     let plan = plan::plan_row(board, &ran.lower, &ran.upper, decision);
-    copy_row(n, &worked, marks);
-    copy_row(n, block, blocks);
-    copy_row(n, &plan, moves);
+    copy_row(n, &worked, rows.marks);
+    copy_row(n, block, rows.blocks);
+    copy_row(n, &plan, rows.moves);
     spoken(decision, ran.splits)
 }
 
@@ -96,31 +90,23 @@ fn run_and_hand_back(
     board: &Board<'_>,
     allowance: u16,
     block: &mut [u16],
-    marks: &mut [u16],
-    blocks: &mut [u16],
-    moves: &mut [u16],
+    rows: &mut Rows<'_>,
 ) -> Verdict
-    requires present { (g : Game) × PresentOn g board.now block.old }
-    requires room { (max_states ≤ length marks.old) × (max_states ≤ length blocks.old) × (max_states ≤ length moves.old) }
-    ensures { (g : Game) → PresentOn g board.now block.old → HandedBack (run lowest_first allowance g) (record { marks = marks.old; blocks = blocks.old; moves = moves.old }) result (record { marks = marks.new; blocks = blocks.new; moves = moves.new }) }
+    requires { (g : Game) × PresentOn g board.now block.old }
+    ensures back { (g : Game) → PresentOn g board.now block.old → HandedBack (run lowest_first allowance g) (rows_of rows.old) result (rows_of rows.new) }
+    ensures same { SameRows rows.old rows.new }
 {
     let ran = outcome::run_rounds(board, allowance, block);
-    hand_back(board, &ran, block, marks, blocks, moves)
+    hand_back(board, &ran, block, rows)
 }
 
 // Solves the game of an accepted file, and writes the three rows. The records are read into rows of plain numbers here,
 // once: the moves into each state are linked, and where each state's moves begin and how many it needs is worked out. The
 // rows are lent to all that follows.
-fn solve_game(
-    file: &[u8],
-    allowance: u16,
-    marks: &mut [u16],
-    blocks: &mut [u16],
-    moves: &mut [u16],
-) -> Verdict
-    requires accepted { refusal file.now ≡ 0 }
-    requires room { (max_states ≤ length marks.old) × (max_states ≤ length blocks.old) × (max_states ≤ length moves.old) }
-    ensures { HandedBack (run_of file.now allowance) (record { marks = marks.old; blocks = blocks.old; moves = moves.old }) result (record { marks = marks.new; blocks = blocks.new; moves = moves.new }) }
+fn solve_game(file: &[u8], allowance: u16, rows: &mut Rows<'_>) -> Verdict
+    requires { refusal file.now ≡ 0 }
+    ensures back { HandedBack (run_of file.now allowance) (rows_of rows.old) result (rows_of rows.new) }
+    ensures same { SameRows rows.old rows.new }
 {
     let n = usize::from(number_at(file, 4));
     let m = usize::from(number_at(file, 6));
@@ -160,7 +146,7 @@ fn solve_game(
         first: &first,
         moves: all_moves,
     };
-    run_and_hand_back(&board, allowance, &mut block, marks, blocks, moves)
+    run_and_hand_back(&board, allowance, &mut block, rows)
 }
 
 // Solves the game of a file with at most `allowance` splits, and writes the three rows: marks, blocks and moves, one
@@ -181,5 +167,10 @@ pub fn solve(
         return Err(Refusal::ShortRow);
     }
     first_refusal(file)?;
-    Ok(solve_game(file, allowance, marks, blocks, moves))
+    let mut rows = Rows {
+        marks,
+        blocks,
+        moves,
+    };
+    Ok(solve_game(file, allowance, &mut rows))
 }

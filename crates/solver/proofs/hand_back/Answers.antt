@@ -9,8 +9,8 @@ use Rattle.solver.specs.declared.Decision.{Decision}
 use Rattle.solver.proofs.HandingBack.{planning, marks_are, decided_word, written}
 use Rattle.solver.proofs.hand_back.Goals as goal
 
-pub returns : goal.returns
-returns c =
+pub returns-clause-back : goal.returns-clause-back
+returns-clause-back c =
     λ g f. let made = marks_are f _ c.mark_row-worked.ensures in
     let told = c.decide-decision.ensures ∙ decided_word f c.mark_row-worked.result made in (
       c.spoken.ensures ∙ ap (λ (d : Decision). said d c.args.ran.now.splits) told,

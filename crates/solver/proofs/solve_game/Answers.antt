@@ -8,64 +8,64 @@ use Rattle.solver.proofs.Rowed.{few-states_of, few-moves_of, read_rows, few-stat
 use Rattle.solver.proofs.solve_game.Goals as goal
 
 pub number_at-requires : goal.number_at-requires
-number_at-requires c = omega (arith, (taken_sound _ (sym c.requires.accepted)).states-long)
+number_at-requires c = omega (arith, (taken_sound _ (sym c.requires)).states-long)
 
 pub number_at-requires-2 : goal.number_at-requires-2
-number_at-requires-2 c = omega (arith, (taken_sound _ (sym c.requires.accepted)).states-long)
+number_at-requires-2 c = omega (arith, (taken_sound _ (sym c.requires)).states-long)
 
 pub number_at-objective-requires : goal.number_at-objective-requires
-number_at-objective-requires c = omega (arith, (taken_sound _ (sym c.requires.accepted)).states-long)
+number_at-objective-requires c = omega (arith, (taken_sound _ (sym c.requires)).states-long)
 
 pub plain_states-requires : goal.plain_states-requires
 unfolding blank
-plain_states-requires c = (let few = few-states_of _ c.requires.accepted (c.from-n.ensures ∙ c.number_at.ensures) in ((c.from-n.ensures ∙ c.number_at.ensures), taken_sound _ (sym c.requires.accepted), few, few, few))
+plain_states-requires c = (let few = few-states_of _ c.requires (c.from-n.ensures ∙ c.number_at.ensures) in ((c.from-n.ensures ∙ c.number_at.ensures), taken_sound _ (sym c.requires), few, few, few))
 
 pub plain_moves-requires : goal.plain_moves-requires
 unfolding blank
-plain_moves-requires c = (let short = few-moves_of _ c.requires.accepted (c.from-m.ensures ∙ c.number_at-2.ensures) in ((c.from-n.ensures ∙ c.number_at.ensures), (c.from-m.ensures ∙ c.number_at-2.ensures), taken_sound _ (sym c.requires.accepted), short, short))
+plain_moves-requires c = (let short = few-moves_of _ c.requires (c.from-m.ensures ∙ c.number_at-2.ensures) in ((c.from-n.ensures ∙ c.number_at.ensures), (c.from-m.ensures ∙ c.number_at-2.ensures), taken_sound _ (sym c.requires), short, short))
 
 pub prey_row-prey-requires : goal.prey_row-prey-requires
 unfolding blank
-prey_row-prey-requires c = few-states_of _ c.requires.accepted (c.from-n.ensures ∙ c.number_at.ensures)
+prey_row-prey-requires c = few-states_of _ c.requires (c.from-n.ensures ∙ c.number_at.ensures)
 
 pub link-requires : goal.link-requires
 unfolding blank
 link-requires c =
-    let a = read_rows _ c.requires.accepted (c.from-n.ensures ∙ c.number_at.ensures) (c.from-m.ensures ∙ c.number_at-2.ensures) c.number_at-objective.ensures c.hunting_side-side.ensures
+    let a = read_rows _ c.requires (c.from-n.ensures ∙ c.number_at.ensures) (c.from-m.ensures ∙ c.number_at-2.ensures) c.number_at-objective.ensures c.hunting_side-side.ensures
     c.plain_states.ensures.turn c.plain_states.ensures.marks c.plain_states.ensures.block c.plain_moves.ensures.from c.plain_moves.ensures.to c.prey_row-prey.ensures in
     (few-states a, few-moves a, tos a, few-moves a, holds_zeros (few-states a))
 
 pub count_keys-requires : goal.count_keys-requires
 unfolding blank
 count_keys-requires c =
-    let a = read_rows _ c.requires.accepted (c.from-n.ensures ∙ c.number_at.ensures) (c.from-m.ensures ∙ c.number_at-2.ensures) c.number_at-objective.ensures c.hunting_side-side.ensures
+    let a = read_rows _ c.requires (c.from-n.ensures ∙ c.number_at.ensures) (c.from-m.ensures ∙ c.number_at-2.ensures) c.number_at-objective.ensures c.hunting_side-side.ensures
     c.plain_states.ensures.turn c.plain_states.ensures.marks c.plain_states.ensures.block c.plain_moves.ensures.from c.plain_moves.ensures.to c.prey_row-prey.ensures in
     (few-states a, few-moves a, froms a, holds_zeros (few-states a))
 
 pub need_row-requires : goal.need_row-requires
 unfolding blank
 need_row-requires c =
-    let a = read_rows _ c.requires.accepted (c.from-n.ensures ∙ c.number_at.ensures) (c.from-m.ensures ∙ c.number_at-2.ensures) c.number_at-objective.ensures c.hunting_side-side.ensures
+    let a = read_rows _ c.requires (c.from-n.ensures ∙ c.number_at.ensures) (c.from-m.ensures ∙ c.number_at-2.ensures) c.number_at-objective.ensures c.hunting_side-side.ensures
     c.plain_states.ensures.turn c.plain_states.ensures.marks c.plain_states.ensures.block c.plain_moves.ensures.from c.plain_moves.ensures.to c.prey_row-prey.ensures in
     (few-states a, a.turn_is.long, c.count_keys.ensures.long)
 
 pub first_moves-requires : goal.first_moves-requires
 unfolding blank
 first_moves-requires c =
-    let a = read_rows _ c.requires.accepted (c.from-n.ensures ∙ c.number_at.ensures) (c.from-m.ensures ∙ c.number_at-2.ensures) c.number_at-objective.ensures c.hunting_side-side.ensures
+    let a = read_rows _ c.requires (c.from-n.ensures ∙ c.number_at.ensures) (c.from-m.ensures ∙ c.number_at-2.ensures) c.number_at-objective.ensures c.hunting_side-side.ensures
     c.plain_states.ensures.turn c.plain_states.ensures.marks c.plain_states.ensures.block c.plain_moves.ensures.from c.plain_moves.ensures.to c.prey_row-prey.ensures in
     (few-states a, few-moves a, froms a, omega (arith, few-states a))
 
-pub run_and_hand_back-requires-clause-present : goal.run_and_hand_back-requires-clause-present
+pub run_and_hand_back-requires : goal.run_and_hand_back-requires
 unfolding blank
-run_and_hand_back-requires-clause-present c =
-    let a = read_rows _ c.requires.accepted (c.from-n.ensures ∙ c.number_at.ensures) (c.from-m.ensures ∙ c.number_at-2.ensures) c.number_at-objective.ensures c.hunting_side-side.ensures
+run_and_hand_back-requires c =
+    let a = read_rows _ c.requires (c.from-n.ensures ∙ c.number_at.ensures) (c.from-m.ensures ∙ c.number_at-2.ensures) c.number_at-objective.ensures c.hunting_side-side.ensures
     c.plain_states.ensures.turn c.plain_states.ensures.marks c.plain_states.ensures.block c.plain_moves.ensures.from c.plain_moves.ensures.to c.prey_row-prey.ensures in
     (_, presented a c.link.ensures c.count_keys.ensures c.need_row.ensures c.first_moves.ensures)
 
-pub returns : goal.returns
+pub returns-clause-back : goal.returns-clause-back
 unfolding blank
-returns c =
-    let a = read_rows _ c.requires.accepted (c.from-n.ensures ∙ c.number_at.ensures) (c.from-m.ensures ∙ c.number_at-2.ensures) c.number_at-objective.ensures c.hunting_side-side.ensures
+returns-clause-back c =
+    let a = read_rows _ c.requires (c.from-n.ensures ∙ c.number_at.ensures) (c.from-m.ensures ∙ c.number_at-2.ensures) c.number_at-objective.ensures c.hunting_side-side.ensures
     c.plain_states.ensures.turn c.plain_states.ensures.marks c.plain_states.ensures.block c.plain_moves.ensures.from c.plain_moves.ensures.to c.prey_row-prey.ensures in
-    c.run_and_hand_back.ensures _ (presented a c.link.ensures c.count_keys.ensures c.need_row.ensures c.first_moves.ensures)
+    c.run_and_hand_back.ensures.back _ (presented a c.link.ensures c.count_keys.ensures c.need_row.ensures c.first_moves.ensures)
