@@ -1,8 +1,9 @@
 // The checks of a solved game, and of a game against the exchanged game, over their sheets.
 use crate::pair::Pair;
-use crate::said::{BLANK, Mark, Said};
+use crate::said::{BLANK, Said};
 use crate::shape::Side;
 use crate::sheet::Sheet;
+use report::words::Mark;
 use sheet_lines::is_blank;
 use solver::Verdict;
 use std::fmt;
@@ -172,8 +173,8 @@ fn verdict_is_right(sheet: &Sheet) -> bool {
 // The lowest-numbered sure initial state is named, and wins; for NO and OPEN there is none, and for NO no open one either.
 fn named_start_is_right(sheet: &Sheet) -> bool {
     let said = &sheet.said;
-    let sure = lowest_start(sheet, |state| said.mark(state) == Some(Mark::Sure));
-    let open = lowest_start(sheet, |state| said.mark(state) == Some(Mark::Open));
+    let sure = lowest_start(sheet, |state| matches!(said.mark(state), Some(Mark::Sure)));
+    let open = lowest_start(sheet, |state| matches!(said.mark(state), Some(Mark::Open)));
     let named = said.named();
     named == sure
         && match said.verdict {
@@ -296,6 +297,10 @@ fn verdicts_trade(one: &Said, other: &Said) -> bool {
 
 // Sure and never trade places, and open stays.
 fn marks_trade(one: &Said, other: &Said, state: usize) -> bool {
-    let mark = other.mark(state);
-    mark.is_some() && one.mark(state).map(Mark::exchanged) == mark
+    matches!(
+        (one.mark(state), other.mark(state)),
+        (Some(Mark::Never), Some(Mark::Sure))
+            | (Some(Mark::Sure), Some(Mark::Never))
+            | (Some(Mark::Open), Some(Mark::Open))
+    )
 }

@@ -1,7 +1,7 @@
 // Follows the plan in the row of moves: the winner makes the moves that the plan advises, and the other side any of its moves. If the
 // winner hunts, the play must come to a state that it hunts for; otherwise it must never come to one that the other side hunts for.
 use crate::board::Board;
-use crate::said::{Mark, Said};
+use crate::said::Said;
 use crate::settle::settle;
 use crate::shape::Objective;
 use game::{Game, StateNo};
@@ -50,8 +50,8 @@ impl Plan<'_> {
 
     // Whether the state is marked for the side that wins by the verdict.
     pub fn is_winners(&self, state: usize) -> bool {
-        let mark = self.said.winner().map(Mark::of_winner);
-        mark.is_some() && self.said.mark(state) == mark
+        let winner = self.said.winner();
+        winner.is_some() && self.said.marked_for(state) == winner
     }
 
     // Whether the play goes on from a state, and the plan lets it go to another to which the state has a move.

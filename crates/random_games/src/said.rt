@@ -2,42 +2,14 @@
 use crate::shape::Side;
 use file::Refusal;
 use game::{BlockNo, StateNo};
+use report::words::{Mark, Move};
 use solver::Verdict;
 
 // The places of the rows that the solver is lent: more than any game has states.
 const PLACES: usize = 600;
 
-// What stands for no state in the row of moves.
-const NONE: u16 = 65535;
-
 // What the lent rows hold before the solver is called.
 pub const BLANK: u16 = 43690;
-
-// What a mark of the solver says: side 2 wins, nothing, or side 1 wins.
-#[derive(Clone, Copy, PartialEq, Eq)]
-pub enum Mark {
-    Never,
-    Open,
-    Sure,
-}
-
-impl Mark {
-    // The mark of the states that the side wins from.
-    pub fn of_winner(side: Side) -> Mark {
-        match side {
-            Side::One => Mark::Sure,
-            Side::Two => Mark::Never,
-        }
-    }
-
-    pub fn exchanged(self) -> Mark {
-        match self {
-            Mark::Never => Mark::Sure,
-            Mark::Open => Mark::Open,
-            Mark::Sure => Mark::Never,
-        }
-    }
-}
 
 // What the solver says of a file with an allowance, and the three rows that it was lent, with all their places: numbers in rows of
 // fixed size, since `solve` is lent such and nothing is allocated.
@@ -95,10 +67,15 @@ impl Said {
 
     // The state's mark, if it is one.
     pub fn mark(&self, state: usize) -> Option<Mark> {
-        match self.marks.get(state) {
-            Some(0) => Some(Mark::Never),
-            Some(1) => Some(Mark::Open),
-            Some(2) => Some(Mark::Sure),
+        let number = self.marks.get(state).copied();
+        number.and_then(|number| Mark::try_from(number).ok())
+    }
+
+    // The side that a state is marked for.
+    pub fn marked_for(&self, state: usize) -> Option<Side> {
+        match self.mark(state) {
+            Some(Mark::Sure) => Some(Side::One),
+            Some(Mark::Never) => Some(Side::Two),
             _ => None,
         }
     }
@@ -110,7 +87,7 @@ impl Said {
 
     // The state that the plan advises to go to from this one.
     pub fn advised(&self, state: usize) -> Option<StateNo> {
-        let advised = self.moves.get(state).copied();
-        advised.filter(|to| *to != NONE).map(StateNo)
+        let number = self.moves.get(state).copied();
+        number.and_then(|number| Move::from(number).0)
     }
 }
