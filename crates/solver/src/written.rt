@@ -59,5 +59,6 @@ pub fn lowest_start(n: usize, starts: &[u8], marks: &[u16], wanted: u16) -> Opti
     ensures { result ≡ start_found n starts.now marks.now wanted }
 {
     let place = first_start(&starts[..n], &marks[..n], wanted)?;
+    // The place is proved to fit: try_from would add a failure that cannot come.
     Some(StateNo(place as u16))
 }
