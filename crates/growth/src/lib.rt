@@ -33,6 +33,7 @@ pub struct Growth<'a> {
 
 // Grows the row's set over the present blocks until a pass adds nothing, by whole blocks or by blocks that meet. The queue
 // lists the set, and the moves into its first `handled` states are counted.
+#[inline(always)]
 pub fn grow(
     moves: &Moves<'_>,
     whole: bool,

@@ -53,7 +53,8 @@ fn walk(
 }
 
 // The passes over the queue from place `first` on, of which those before `entered` had entered before, until a pass adds
-// nothing.
+// nothing. Inlined, so that what the two callers know of `whole` and `first` reaches the loops.
+#[inline(always)]
 pub fn run_passes(
     moves: &Moves<'_>,
     whole: bool,
