@@ -3,8 +3,8 @@ use mathlib.Core.Path.{◌≡◌, refl, subst}
 use mathlib.Core.Bool.{Bool, true, false, not, ◌&&◌, ◌||◌, cond}
 use Prim.Native.Nat.{ℕ, ◌+◌, ◌<◌}
 use lib.Dec.{T, eqb, eqb→eq, eqb_refl}
-use borrow.Author.Tests.{eq-eqb, ne_eqb}
-use Rattle.arena.specs.Sets.{Set, imp, some, every, bit}
+use borrow.Author.Tests.{ne_eqb}
+use Rattle.arena.specs.Sets.{Set, imp, some, every}
 use Rattle.arena.specs.Arena.{forced}
 use Rattle.arena.proofs.Tests.{T_ext}
 use Rattle.arena.proofs.Sets.{meets_in, meets-out, within_in, within-out}
@@ -36,23 +36,6 @@ module _ (g : Game) where
       go : (b : Bool) → not b ≡ cond b false true
       go true = refl
       go false = refl
-
-  -- one move more, of s itself
-  pub seen_more : (side : ℕ) (X : Set) (k s : ℕ) → from_at g k ≡ s → (v : ℕ) → v ≡ bit (seen side X k s)
-      → cond (eqb (turn_at g s) side) (cond (X (to_at g k)) 1 v) (cond (X (to_at g k)) v 0) ≡ bit (seen side X (k + 1) s)
-  unfolding seen
-  seen_more side X k s e v q =
-      rw (some_more, every_more, q, eq-eqb _ _ e) (go (eqb (turn_at g s) side) (some k (leads X s)) (every k (keeps X s)) (X (to_at g k)))
-    where
-      go : (own a b x : Bool) → cond own (cond x 1 (bit (cond own a b))) (cond x (bit (cond own a b)) 0) ≡ bit (cond own (a || x) (b && x))
-      go true true b true = refl
-      go true false b true = refl
-      go true true b false = refl
-      go true false b false = refl
-      go false a true true = refl
-      go false a false true = refl
-      go false a true false = refl
-      go false a false false = refl
 
   -- one move more, of another state
   pub seen_same : (side : ℕ) (X : Set) (k s : ℕ) → (from_at g k ≡ s → ⊥) → seen side X k s ≡ seen side X (k + 1) s

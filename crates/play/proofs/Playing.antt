@@ -94,10 +94,6 @@ module _ {g : Game} (ok : AcceptedGame g) {side n m objective : ℕ} {turn start
   pub more_fits : Fits w64 (made + 1)
   more_fits = omega (arith, few_made)
 
-  -- a row of 16-bit places is read at an offset of two bytes a place
-  pub made_offset : Fits w64 (made * 2)
-  made_offset = omega (arith, few_made)
-
   pub in_log : {l k : ℕ} → max_states ≤ k → l ≡ k → made < l
   in_log h e = omega (arith, few_made)
 

@@ -19,7 +19,8 @@ use runs::starts;
 // Numbers by state.
 pub type Row = [u16; Game::MAX_STATES];
 
-// Links the members of the present blocks, and grows the row's set from nothing.
+// Links the members of the present blocks, and grows the row's set from nothing. Inlined, as `grow` is.
+#[inline(always)]
 pub fn grow_anew(
     moves: &Moves<'_>,
     whole: bool,

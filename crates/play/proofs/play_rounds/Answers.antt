@@ -5,6 +5,7 @@ use mathlib.Core.Path.{refl, sym, ap, ◌∙◌}
 use mathlib.Core.Bool.{not}
 use borrow.Author.Tests.{not-false}
 use lib.ListN.{length, length-set}
+use borrow.Author.Rules.{rules}
 use Rattle.runs.specs.Run.{lowest_first, round}
 use Rattle.runs.specs.First.{CatchableBefore}
 use Rattle.rows.specs.RoundRows.{Next}
@@ -113,8 +114,8 @@ rounds-preserved c =
         | then-is_due+else-is_last w ↦ (neither _ _ w.is_last.ensures w.if-is_last.false).0
         | else-is_due w ↦ (neither _ _ c.is_due.ensures w.if-is_due.false).0
       ]) inv.1)),
-      c.block-1.given ∙ inv.2,
-      c.lower-1.given ∙ inv.3,
+      search rules,
+      search rules,
       ap length c.note.ensures.parents ∙ length-set c.rounds.log.parents.now c.rounds.log.made c.block_number-b.result ∙ inv.4,
       ap length c.note.ensures.names ∙ length-set c.rounds.log.names.now c.rounds.log.made c.split_round-name.result ∙ inv.5,
     )
