@@ -9,8 +9,8 @@ ghost use Rattle.runs.specs.Hunting.{upper_states};
 ghost use Rattle.rows.specs.RoundRows.{Saying, Numbered};
 ghost use Rattle.rows.specs.Grouped.{PresentOn, LoweredOn, FinishingOn, FinalOn};
 
-use chains::lent::{Board, Members};
 use chains::copy_row;
+use chains::lent::{Board, Members};
 use game::Game;
 use growth::Growth;
 use play::{last_round, play_rounds};
