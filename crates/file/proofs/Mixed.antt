@@ -6,10 +6,10 @@ use Prim.Native.Nat.{ℕ, ◌<◌}
 use native.Mathlib.Omega.{arith}
 use lib.Dec.{T, T_not, eqb, eqb→eq}
 use borrow.Author.Tests.{eq-eqb}
-use Rattle.arena.specs.Sets.{Set, compl}
-use Rattle.arena.proofs.Tests.{is_false, holds, beq_refl, opposite}
+use Rattle.arena.specs.Sets.{Set, compl, some}
+use Rattle.arena.proofs.Tests.{is_false, holds, beq_refl, beq→eq, opposite}
 use Rattle.arena.proofs.Sets.{meets-out}
-use Rattle.arena.proofs.Loops.{some_found}
+use Rattle.arena.proofs.Loops.{some_found, some_one}
 use Rattle.file.specs.Layout.{states, block}
 use Rattle.file.specs.Refusals.{member, mixed}
 use Rattle.file.specs.Sound.{Sound}
@@ -54,3 +54,16 @@ module _ (f : List ℕ) (X : Set) where
       first Y same b p =
           let w = meets-out (states f) (λ s. eqb (block f s) b) Y p in
           subst T (same w.0 w.1 ∙ ap Y (eqb→eq _ _ w.2)) w.3
+
+  -- whether a state differs from the one that names its block
+  abbrev pub differs : Set
+  differs s = not (beq (X s) (X (block f s)))
+
+  -- some state differs where some block is mixed, and only there
+  pub mixed_searched : Sound f → (r : Bool) → r ≡ some (states f) differs → r ≡ mixed f X
+  mixed_searched g true e = let w = some_one (states f) differs (sym e) in mixed_found g w.0 w.1 (beq_apart _ _ w.2)
+  mixed_searched g false e = mixed-none (λ s l.
+      elim (Bool-discrete (X s) (X (block f s))) [
+        | yes p ↦ p
+        | no ne ↦ absurd (true≢false (sym (some_found (states f) differs s l (ap not (is_false (beq (X s) (X (block f s))) (λ t. ne (beq→eq _ _ t))))) ∙ sym e))
+      ])

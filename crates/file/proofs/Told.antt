@@ -1,8 +1,8 @@
 -- A row that tells of each state whether some move leads from it.
-use mathlib.Core.Path.{◌≡◌, refl, sym, ◌∙◌}
-use mathlib.Core.Bool.{Bool, true, false, or-true, or-false}
+use mathlib.Core.Path.{◌≡◌, refl, sym, ap, ◌∙◌}
+use mathlib.Core.Bool.{Bool, true, false, ◌||◌, or-true, or-false}
 use mathlib.Core.List.{List}
-use Prim.Native.Nat.{ℕ, ◌+◌, ◌≤◌, ◌<◌}
+use Prim.Native.Nat.{ℕ, zero, suc, ◌+◌, ◌≤◌, ◌<◌}
 use native.Mathlib.Omega.{arith}
 use native.Mathlib.Decide.{ℕ_discrete}
 use lib.Dec.{eqb}
@@ -10,10 +10,11 @@ use lib.ListN.{length, get_or, set, take}
 use lib.Seq.{get_or-set_same, get_or-set_other}
 use borrow.Author.Tests.{eq-eqb, ne_eqb}
 use Rattle.std.specs.Bool.{MatchBool}
-use Rattle.std.specs.List.{AllWithin, HoldsAt}
+use Rattle.std.specs.List.{AllWithin, HoldsAt, list_any, range_with_len}
 use Rattle.std.proofs.lemmas.List.{get_or-take, length-take-le}
+use Rattle.std.proofs.Math.Bool.{or_assoc}
 use Rattle.arena.specs.Sets.{Set, some, every}
-use Rattle.arena.proofs.Loops.{some_more, every_each, every_false}
+use Rattle.arena.proofs.Loops.{some-zero, some_more, every_each, every_false}
 
 module _ (n k : ℕ) (row : List Bool) (from : ℕ → ℕ) (long : length row ≡ n) (told : (s : ℕ) → s < n → get_or row s false ≡ some k (λ j. eqb (from j) s)) where
   -- move k leads from x
@@ -35,3 +36,12 @@ all_told most n row X false long few told w =
     let size : length (take n row) ≡ n = length-take-le n row (rw long few) in
     let inside : w.0 < n = rw size at w.1 in
     every_false n X w.0 inside (sym (told w.0 (omega arith)) ∙ sym (get_or-take n row w.0 false inside) ∙ w.2 false)
+
+-- a search over the n numbers from a on, after those below a
+some_from : (X : Set) (a n m : ℕ) → a + n ≡ m → some m X ≡ (some a X || list_any X (range_with_len a n))
+some_from X a zero m e = ap (λ k. some k X) (omega (arith, e)) ∙ sym (or-false _)
+some_from X a (suc n) m e = some_from X (a + 1) n m (omega (arith, e)) ∙ ap (λ y. y || list_any X (range_with_len (a + 1) n)) (some_more a X) ∙ or_assoc (some a X) (X a) (list_any X (range_with_len (a + 1) n))
+
+-- whether a search over the numbers below n finds one
+pub some_listed : (n : ℕ) (X : Set) (r : Bool) → r ≡ list_any X (range_with_len 0 n) → r ≡ some n X
+some_listed n X r e = e ∙ sym (some_from X 0 n n (omega arith) ∙ ap (λ y. y || list_any X (range_with_len 0 n)) (some-zero X))

@@ -244,12 +244,7 @@ impl SoundRecords<'_> {
     fn some_initial(&self) -> bool
         ensures { result ≡ some self.now.records.states (initial self.now.records.file.now) }
     {
-        for s in 0..self.records.states {
-            if has_mark(1, self.records.file[10 + 8 * s + 5]) {
-                return true;
-            }
-        }
-        false
+        (0..self.records.states).any(|s| has_mark(1, self.records.file[10 + 8 * s + 5]))
     }
 
     // For each state, whether it has a move.
@@ -278,14 +273,11 @@ impl SoundRecords<'_> {
     fn mixed_blocks(&self, mark: u8) -> bool
         ensures { result ≡ mixed self.now.records.file.now (λ s. marked mark (marks self.now.records.file.now s)) }
     {
-        for s in 0..self.records.states {
+        (0..self.records.states).any(|s| {
             let block = usize::from(number_at(self.records.file, 10 + 8 * s + 6));
-            let own = has_mark(mark, self.records.file[10 + 8 * s + 5]);
-            if own != has_mark(mark, self.records.file[10 + 8 * block + 5]) {
-                return true;
-            }
-        }
-        false
+            has_mark(mark, self.records.file[10 + 8 * s + 5])
+                != has_mark(mark, self.records.file[10 + 8 * block + 5])
+        })
     }
 
     // What the blocks of a file with sound records are refused for.
