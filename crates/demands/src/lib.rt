@@ -62,8 +62,8 @@ fn solve_written(
     solver::solve(&out[..count], allowance, marks, blocks, moves)
 }
 
-// Demand 3 of an exchange and two calls of `solve`, of the file first and then of the exchanged one. Rows are lent one by one, as
-// the calls take them.
+// Demand 3 of an exchange and the calls of `solve` around it: of the file first, and then, unless the exchange is refused, of the
+// exchanged one. Rows are lent one by one, as the calls take them.
 pub fn solve_exchanged_as_promised(
     file: &[u8],
     out: &mut [u8],
