@@ -17,7 +17,8 @@ pub mod refusal;
 
 pub use refusal::Refusal;
 
-// The two bytes at a place, the low one first.
+// The two bytes at a place, the low one first. The file and the place stay parameters: it is public, docs/DECISIONS.md
+// names it, and its callers read at places of their own.
 #[tactic(auto, unfolding(crate::specs::Layout::number_at))]
 pub fn number_at(file: &[u8], at: usize) -> u16
     requires { at + 1 < length file.now }
@@ -247,7 +248,7 @@ impl SoundRecords<'_> {
         (0..self.records.states).any(|s| has_mark(1, self.records.file[10 + 8 * s + 5]))
     }
 
-    // For each state, whether it has a move.
+    // For each state, whether it has a move. The memory is fixed: the row has a place for each state that a game may have.
     fn moved_row(&self) -> [bool; Game::MAX_STATES]
         ensures { Moved self.now.records.file.now result }
     {

@@ -28,15 +28,17 @@ const ENDS: usize = Game::MAX_STATES + 1;
 
 // What the solver says of a game: YES with the named start and the splits made, NO or OPEN with the splits. There are three
 // words, so that no Option or Result says them.
-#[derive(Clone, Copy)]
+#[derive(Clone, Copy, Debug, PartialEq, Eq, Hash)]
 pub enum Verdict {
     Yes(StateNo, u16),
     No(u16),
     Open(u16),
 }
 
-// What a round says of its game: the word alone, before its splits are counted.
-#[derive(Clone, Copy)]
+// What a round says of its game: the word alone, before its splits are counted. It is a twin of `Verdict`, which can't be
+// a word and its splits: README and docs/DECISIONS.md name `Verdict::Yes(start, splits)`, and `said`, `IsYes` and the table
+// of `cases` read it so.
+#[derive(Clone, Copy, Debug, PartialEq, Eq, Hash)]
 pub enum Decision {
     Yes(StateNo),
     No,

@@ -9,8 +9,9 @@ ghost use Rattle.solver.specs.Work.{mark_no, start_found};
 use game::{Game, StateNo, has_mark};
 use rows::sets::Row;
 
-// 2 for sure, 1 for open, 0 for never, as callers read them in the row that is handed back; by the passes of the hunting
-// side: in a reach game, objective 1 of the file, it is side 1.
+// 2 for sure, 1 for open, 0 for never, by the passes of the hunting side: in a reach game, objective 1 of the file, it is
+// side 1. Marks and the objective stay numbers: callers read the row of marks so, for C too, and the definition `mark_no`
+// is said of every objective.
 #[tactic(auto, unfolding(crate::specs::Work::mark_no))]
 fn mark_no(objective: u16, lower: u16, upper: u16) -> u16
     ensures { result ≡ mark_no objective lower upper }
