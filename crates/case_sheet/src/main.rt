@@ -9,14 +9,14 @@ mod sheet;
 mod show;
 
 use input::filled;
-use sheet_lines::SHEET_ROOM;
+use sheet_lines::{SHEET_ROOM, each_line};
 use std::io;
 
 fn main(rt: HostRuntime) -> io::Result<()> {
     let mut room = filled::<u8, SHEET_ROOM>(0);
     let count = input::read_full(&mut rt.stdin(), &mut room)?;
     let mut to = io::writer(&rt);
-    sheet::each_line(&mut to, &room[..count])?;
+    each_line(&room[..count], |line| sheet::run_line(&mut to, line))?;
     build::long_files(&mut to)?;
     build::largest_files(&mut to)
 }

@@ -1,7 +1,7 @@
 // Reading the lines of a sheet of cases, for the programs that run one.
 #![tactic(auto)]
 
-ghost use Rattle.std.specs.Prelude.{◌≡◌, ◌≢◌, ◌+◌, ◌≤◌, ◌<◌, All, Some, length, take, drop, slice_get};
+ghost use Rattle.std.specs.Prelude.{◌≡◌, ◌≢◌, ◌+◌, ◌≤◌, ◌<◌, IfErr, Err, All, Some, length, take, drop, slice_get};
 ghost use Rattle.std.specs.List.{list_all};
 ghost use Rattle.sheet_lines.specs.Digits.{digit_value, with_digit, number};
 
@@ -21,6 +21,17 @@ pub fn is_blank<T: PartialEq>(row: &[T], from: usize, blank: &T) -> bool
     ensures { result ≡ list_all (λ place. T.eq place blank.now) (drop from row.now) }
 {
     row.iter().skip(from).all(|place| place == blank)
+}
+
+// Runs `run` over the lines of a sheet, each without its end, until one fails.
+pub fn each_line<E, F: FnMut(&[u8]) -> Result<(), E>>(text: &[u8], mut run: F) -> Result<(), E>
+    requires { F.IsAlwaysCallable run }
+    ensures { IfErr result (λ e. (before : F) × (line : _) × (after : F) × F.step before line (Err e) after) }
+{
+    for line in text.split_inclusive(|byte| *byte == b'\n') {
+        run(line.strip_suffix(b"\n").unwrap_or(line))?;
+    }
+    Ok(())
 }
 
 // The name of a line, which ends at the first colon or with the line, and what stands behind the colon and a space.
