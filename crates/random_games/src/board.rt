@@ -6,12 +6,15 @@ use decoding::decode;
 use game::{BlockNo, Game, StateNo};
 use std::array;
 
+// A place for each state, and one for the end of the last state's moves.
+const ENDS: usize = Game::MAX_STATES + 1;
+
 // A decoded game, and the number of each state's first move, with one place more for the end of the last state's moves, in a row of
 // fixed size, since nothing is allocated.
 #[derive(Clone, Copy)]
 pub struct Board {
     game: Game,
-    first: [usize; 513],
+    first: [usize; ENDS],
 }
 
 impl Board {
@@ -40,17 +43,12 @@ impl Board {
     }
 
     pub fn objective(&self) -> Objective {
-        match self.game.objective {
-            1 => Objective::Reach,
-            _ => Objective::Stay,
-        }
+        Objective::from(self.game.objective)
     }
 
     pub fn turn(&self, state: usize) -> Side {
-        match self.game.turn.get(state) {
-            Some(1) => Side::One,
-            _ => Side::Two,
-        }
+        let turn = self.game.turn.get(state);
+        turn.map_or(Side::Two, |number| Side::from(*number))
     }
 
     pub fn is_start(&self, state: usize) -> bool {

@@ -1,10 +1,10 @@
 // The checks of a solved game, and of a game against the exchanged game, over their sheets.
 use crate::pair::Pair;
-use crate::said::{BLANK, Said};
+use crate::said::Said;
 use crate::shape::Side;
 use crate::sheet::Sheet;
 use report::words::Mark;
-use sheet_lines::is_blank;
+use sheet_lines::{BLANK, is_blank};
 use solver::Verdict;
 use std::fmt;
 
@@ -243,10 +243,8 @@ fn advice_is_due(sheet: &Sheet, state: usize) -> bool {
 // From each state that is marked for a winner that hunts, the hunt ends within one move less than there are states.
 fn plan_is_in_time(sheet: &Sheet, state: usize) -> bool {
     let plan = sheet.plan();
-    let in_time = match sheet.time(state) {
-        Some(moves) => usize::from(moves) < sheet.states(),
-        None => false,
-    };
+    let time = sheet.time(state);
+    let in_time = time.is_some_and(|moves| usize::from(moves) < sheet.states());
     !plan.is_winners(state) || !plan.winner_hunts() || in_time
 }
 

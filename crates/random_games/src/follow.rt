@@ -79,10 +79,8 @@ impl Plan<'_> {
 
     // Whether an advised move, if there is one, is a move of its state.
     pub fn advises_a_move(&self, state: usize) -> bool {
-        match self.said.advised(state) {
-            Some(advised) => self.board.moves_from(state).contains(&advised),
-            None => true,
-        }
+        let advised = self.said.advised(state);
+        advised.is_none_or(|to| self.board.moves_from(state).contains(&to))
     }
 
     // Whether the plan lets the play go from the state to one that is not marked for the winner.

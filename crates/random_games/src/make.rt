@@ -33,13 +33,13 @@ impl FileWriter<'_> {
 // For each of the marks and each colour, the lowest state that has them, once there is one.
 #[derive(Clone, Copy)]
 struct Blocks {
-    lowest: [Option<u16>; 128],
+    lowest: [[Option<u16>; 32]; 4],
 }
 
 impl Blocks {
     fn none() -> Blocks {
         Blocks {
-            lowest: [None; 128],
+            lowest: [[None; 32]; 4],
         }
     }
 
@@ -49,8 +49,8 @@ impl Blocks {
             return state.number;
         };
         let colour = state.draws().below(colours, Purpose::Colour) % 32;
-        let place = 32 * usize::from(state.marks()) + usize::from(colour);
-        *self.lowest[place].get_or_insert(state.number)
+        let lowest = &mut self.lowest[usize::from(state.marks())];
+        *lowest[usize::from(colour)].get_or_insert(state.number)
     }
 }
 

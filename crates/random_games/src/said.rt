@@ -3,13 +3,8 @@ use crate::shape::Side;
 use file::Refusal;
 use game::{BlockNo, StateNo};
 use report::words::{Mark, Move};
+use sheet_lines::{BLANK, ROW_ROOM};
 use solver::Verdict;
-
-// The places of the rows that the solver is lent: more than any game has states.
-const PLACES: usize = 600;
-
-// What the lent rows hold before the solver is called.
-pub const BLANK: u16 = 43690;
 
 // What the solver says of a file with an allowance, and the three rows that it was lent, with all their places: numbers in rows of
 // fixed size, since `solve` is lent such and nothing is allocated.
@@ -17,16 +12,16 @@ pub const BLANK: u16 = 43690;
 pub struct Said {
     pub allowance: u16,
     pub verdict: Result<Verdict, Refusal>,
-    pub marks: [u16; PLACES],
-    pub blocks: [u16; PLACES],
-    pub moves: [u16; PLACES],
+    pub marks: [u16; ROW_ROOM],
+    pub blocks: [u16; ROW_ROOM],
+    pub moves: [u16; ROW_ROOM],
 }
 
 impl Said {
     pub fn of_file(file: &[u8], allowance: u16) -> Said {
-        let mut marks = [BLANK; PLACES];
-        let mut blocks = [BLANK; PLACES];
-        let mut moves = [BLANK; PLACES];
+        let mut marks = [BLANK; ROW_ROOM];
+        let mut blocks = [BLANK; ROW_ROOM];
+        let mut moves = [BLANK; ROW_ROOM];
         let verdict = solver::solve(file, allowance, &mut marks, &mut blocks, &mut moves);
         Said {
             allowance,

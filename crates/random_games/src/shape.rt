@@ -63,10 +63,30 @@ pub enum Side {
     Two = 2,
 }
 
+// The side that a state's turn names: side 2 where it is not 1.
+impl From<u8> for Side {
+    fn from(turn: u8) -> Side {
+        match turn {
+            1 => Side::One,
+            _ => Side::Two,
+        }
+    }
+}
+
 #[derive(Clone, Copy, PartialEq, Eq)]
 pub enum Objective {
     Reach = 1,
     Stay = 2,
+}
+
+// The objective that a head names: stay where it is not 1.
+impl From<u16> for Objective {
+    fn from(number: u16) -> Objective {
+        match number {
+            1 => Objective::Reach,
+            _ => Objective::Stay,
+        }
+    }
 }
 
 impl Objective {
@@ -109,7 +129,7 @@ impl Shape {
             family,
             states,
             most_moves: most_moves_of(family, states, draws),
-            objective: objective_of(draws),
+            objective: Objective::from(draws.between(1, 2, Purpose::Objective)),
             turns: turns_of(draws),
             target: target_of(draws),
             starts: starts_of(draws),
@@ -167,13 +187,6 @@ fn most_moves_of(family: Family, states: u16, draws: Draws) -> u16 {
         Family::Wide => draws.between(1, 4096 / states.max(1), Purpose::MostMoves),
         Family::Chains | Family::Folded => 3,
         Family::Full => 8,
-    }
-}
-
-fn objective_of(draws: Draws) -> Objective {
-    match draws.between(1, 2, Purpose::Objective) {
-        1 => Objective::Reach,
-        _ => Objective::Stay,
     }
 }
 

@@ -1,5 +1,5 @@
 -- The words of an answer.
-use Rattle.std.specs.Prelude.{◌≡◌, ℕ, ◌<◌, ◌==◌, if◌then◌else◌, List, ◌++◌, codes, Option, Some, None, Result, MatchResult}
+use Rattle.std.specs.Prelude.{◌≡◌, ℕ, ◌<◌, ◌==◌, if◌then◌else◌, List, ◌++◌, codes, Option, Some, None, Result, Ok, Err, MatchResult}
 use Rattle.std.specs.Fmt.{decimal}
 use Rattle.game.specs.declared.StateNo.{StateNo}
 use Rattle.game.specs.Game.{state_no}
@@ -25,6 +25,14 @@ mark_word mark.Never = codes "never"
 mark_word mark.Open = codes "open"
 mark_word mark.Sure = codes "sure"
 
+-- what stands in the place of a mark where a number names none
+abbrev pub wrong_word : WrongMark → List ℕ
+wrong_word wrong = codes "WRONG"
+
+abbrev pub said_mark : Result Mark WrongMark → List ℕ
+said_mark (Ok mark) = mark_word mark
+said_mark (Err wrong) = wrong_word wrong
+
 -- what a number in the row of moves says: a state, or 65535 for no move
 abbrev pub move_of : ℕ → Option StateNo
 move_of n = if n == 65535 then None else Some (state_no n)
@@ -42,4 +50,4 @@ verdict_line (Open splits) = codes "OPEN - " ++ decimal splits
 
 -- a state's number, its mark, its block and its move
 abbrev pub state_line : StateLine → List ℕ
-state_line line = decimal line.state ++ (codes " " ++ (mark_word line.mark ++ (codes " " ++ (decimal line.block ++ (codes " " ++ move_word line.to.0)))))
+state_line line = decimal line.state ++ (codes " " ++ (said_mark line.mark ++ (codes " " ++ (decimal line.block ++ (codes " " ++ move_word line.to.0)))))

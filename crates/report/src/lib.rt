@@ -10,7 +10,7 @@ use file::number_at;
 use game::Game;
 use std::io;
 use std::io::Write;
-use words::{Mark, Move, StateLine, VerdictLine};
+use words::{Mark, StateLines, VerdictLine};
 
 /// What stands above the lines of the states.
 pub const HEADING: &str = "state mark block move";
@@ -26,58 +26,32 @@ pub fn state_count(file: &[u8]) -> usize
     }
 }
 
-// What the solver says of the states, a place for each.
-#[derive(Clone, Copy)]
-struct Rows {
-    marks: [u16; Game::MAX_STATES],
-    blocks: [u16; Game::MAX_STATES],
-    moves: [u16; Game::MAX_STATES],
-}
-
-impl Rows {
-    fn empty() -> Rows {
-        Rows {
-            marks: [0; Game::MAX_STATES],
-            blocks: [0; Game::MAX_STATES],
-            moves: [0; Game::MAX_STATES],
-        }
-    }
-
-    // A line for each of the first `count` states.
-    fn print<W: Write>(&self, out: &mut W, count: usize) -> io::Result<()> {
-        let places = self
-            .marks
-            .iter()
-            .zip(self.blocks.iter())
-            .zip(self.moves.iter());
-        for (state, ((mark, block), to)) in places.take(count).enumerate() {
-            let line = StateLine {
-                state,
-                mark: Mark::try_from(*mark).unwrap_or(Mark::Never),
-                block: *block,
-                to: Move::from(*to),
-            };
-            writeln!(out, "{line}")?;
-        }
-        Ok(())
-    }
-}
-
 /// Solves the game of the file, and prints the refusal or the verdict and a line for each state.
 pub fn print_answer<W: Write>(out: &mut W, file: &[u8], allowance: u16) -> io::Result<()> {
-    let mut rows = Rows::empty();
-    match solver::solve(
-        file,
-        allowance,
-        &mut rows.marks,
-        &mut rows.blocks,
-        &mut rows.moves,
-    ) {
+    let mut marks = [0; Game::MAX_STATES];
+    let mut blocks = [0; Game::MAX_STATES];
+    let mut moves = [0; Game::MAX_STATES];
+    match solver::solve(file, allowance, &mut marks, &mut blocks, &mut moves) {
         Ok(verdict) => {
             let verdict = VerdictLine(verdict);
-            writeln!(out, "{verdict}\n{HEADING}")?;
-            rows.print(out, state_count(file))
+            let lines = StateLines {
+                count: state_count(file),
+                marks: marked(&mut marks),
+                blocks: &blocks,
+                moves: &moves,
+            };
+            write!(out, "{verdict}\n{HEADING}\n{lines}")
         }
         Err(refusal) => writeln!(out, "REFUSED {refusal}"),
     }
+}
+
+// The row with a mark in each place: a number that is none counts as never. The solver writes no such number.
+fn marked(marks: &mut [u16]) -> &[u16] {
+    for mark in marks.iter_mut() {
+        if Mark::try_from(*mark).is_err() {
+            *mark = 0;
+        }
+    }
+    marks
 }

@@ -1,9 +1,10 @@
 // The words of an answer: of a verdict, of a state's mark and of its move, and of a state's line.
 ghost use Rattle.std.specs.Prelude.{◌≡◌, Some};
-ghost use Rattle.report.specs.Words.{NamesMark, mark_word, move_of, move_word, state_line, verdict_line};
+ghost use Rattle.report.specs.Words.{NamesMark, mark_word, move_of, move_word, state_line, verdict_line, wrong_word};
 
 use game::StateNo;
 use solver::Verdict;
+use std::error::Error;
 use std::fmt;
 
 /// A verdict, as its line says it: the word, the start that it names, and how many splits there were.
@@ -26,7 +27,7 @@ impl fmt::Display for VerdictLine {
 }
 
 /// Whether the hunting side has a state: never, open, or for sure.
-#[derive(Clone, Copy)]
+#[derive(Clone, Copy, Debug, PartialEq, Eq, Hash)]
 pub enum Mark {
     Never,
     Open,
@@ -34,8 +35,18 @@ pub enum Mark {
 }
 
 /// A number that stands for no mark.
-#[derive(Clone, Copy)]
+#[derive(Clone, Copy, Debug, PartialEq, Eq, Hash)]
 pub struct WrongMark(pub u16);
+
+impl fmt::Display for WrongMark {
+    ghost output = { λ wrong. Some (wrong_word wrong) };
+
+    fn fmt<W: fmt::Write>(&self, f: &mut fmt::Formatter<W>) -> fmt::Result {
+        f.write_str("WRONG")
+    }
+}
+
+impl Error for WrongMark {}
 
 impl TryFrom<u16> for Mark {
     type Error = WrongMark;
@@ -65,10 +76,11 @@ impl fmt::Display for Mark {
 }
 
 /// The state that a move leads to, or none where there is no move.
-#[derive(Clone, Copy)]
+#[derive(Clone, Copy, Debug, PartialEq, Eq, Hash)]
 pub struct Move(pub Option<StateNo>);
 
-// How the row of moves says that there is none: a number, since rows of numbers are lent to the solver, from C too.
+// How the row of moves says that there is none: a number, since rows of numbers are lent to the solver, from C too. The solver's own
+// name for it lies in a module that is private.
 const NO_MOVE: u16 = 65535;
 
 impl From<u16> for Move {
@@ -101,7 +113,7 @@ impl fmt::Display for Move {
 #[derive(Clone, Copy)]
 pub struct StateLine {
     pub state: usize,
-    pub mark: Mark,
+    pub mark: Result<Mark, WrongMark>,
     pub block: u16,
     pub to: Move,
 }
@@ -116,6 +128,34 @@ impl fmt::Display for StateLine {
             block,
             to,
         } = *self;
-        write!(f, "{state} {mark} {block} {to}")
+        match mark {
+            Ok(mark) => write!(f, "{state} {mark} {block} {to}"),
+            Err(wrong) => write!(f, "{state} {wrong} {block} {to}"),
+        }
+    }
+}
+
+/// The lines of the states below `count`, as far as all three rows have a place for them.
+#[derive(Clone, Copy)]
+pub struct StateLines<'a> {
+    pub count: usize,
+    pub marks: &'a [u16],
+    pub blocks: &'a [u16],
+    pub moves: &'a [u16],
+}
+
+impl<'a> fmt::Display for StateLines<'a> {
+    fn fmt<W: fmt::Write>(&self, f: &mut fmt::Formatter<W>) -> fmt::Result {
+        let places = self.marks.iter().zip(self.blocks).zip(self.moves);
+        for (state, ((mark, block), to)) in places.take(self.count).enumerate() {
+            let line = StateLine {
+                state,
+                mark: Mark::try_from(*mark),
+                block: *block,
+                to: Move::from(*to),
+            };
+            writeln!(f, "{line}")?;
+        }
+        Ok(())
     }
 }

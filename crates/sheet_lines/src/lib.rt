@@ -8,6 +8,12 @@ ghost use Rattle.sheet_lines.specs.Digits.{digit_value, with_digit, number};
 // The places of a buffer that holds a whole sheet.
 pub const SHEET_ROOM: usize = 262144;
 
+// The most places of a row that is lent to the solver: more than any game has states.
+pub const ROW_ROOM: usize = 600;
+
+// What every place of such a row holds before a call. A place that holds it afterwards counts as untouched.
+pub const BLANK: u16 = 43690;
+
 // The size itself, or the length of `room` where that is less. With what it ensures, `&room[..r]` is proved with no proof file.
 pub fn fitting<T>(size: usize, room: &[T]) -> usize
     ensures in_bounds { result ≤ length room.now }

@@ -1,16 +1,10 @@
 // The lines of a case: what the solver makes of a file, and whether the rest of the lent rows is untouched.
 use input::filled;
-use report::words::{Mark, Move, StateLine, VerdictLine};
+use report::words::{StateLines, VerdictLine};
 use report::{HEADING, state_count};
-use sheet_lines::{fitting, is_blank};
+use sheet_lines::{BLANK, ROW_ROOM, fitting, is_blank};
 use std::io;
 use std::io::Write;
-
-// What every row holds before a call. A place that holds it afterwards counts as untouched.
-const BLANK: u16 = 43690;
-
-// The most places of a row that is lent.
-const ROW_ROOM: usize = 600;
 
 // How many places of each row are lent.
 #[derive(Clone, Copy)]
@@ -52,8 +46,8 @@ fn lend<W: Write>(to: &mut W, file: &[u8], allowance: u16, rows: &mut Rows<'_>) 
     match solver::solve(file, allowance, rows.marks, rows.blocks, rows.moves) {
         Ok(verdict) => {
             let verdict = VerdictLine(verdict);
-            writeln!(to, "{verdict}\n{HEADING}")?;
             let count = state_count(file);
+            writeln!(to, "{verdict}\n{HEADING}")?;
             rows.states(to, count)?;
             rows.rest(to, count)
         }
@@ -67,27 +61,13 @@ fn lend<W: Write>(to: &mut W, file: &[u8], allowance: u16, rows: &mut Rows<'_>) 
 impl<'a> Rows<'a> {
     // The lines of the states below `count`, as far as all rows have a place for them.
     fn states<W: Write>(&self, to: &mut W, count: usize) -> io::Result<()> {
-        let places = self
-            .marks
-            .iter()
-            .zip(self.blocks.iter())
-            .zip(self.moves.iter());
-        for (state, ((mark, block), planned)) in places.take(count).enumerate() {
-            let planned = Move::from(*planned);
-            match Mark::try_from(*mark) {
-                Ok(mark) => {
-                    let line = StateLine {
-                        state,
-                        mark,
-                        block: *block,
-                        to: planned,
-                    };
-                    writeln!(to, "{line}")?;
-                }
-                Err(_) => writeln!(to, "{state} WRONG {block} {planned}")?,
-            }
-        }
-        Ok(())
+        let lines = StateLines {
+            count,
+            marks: self.marks,
+            blocks: self.blocks,
+            moves: self.moves,
+        };
+        write!(to, "{lines}")
     }
 
     // Says whether all places from `from` on are untouched in the three rows.
