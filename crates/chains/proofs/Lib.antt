@@ -1,4 +1,5 @@
 pub mod Counts
 pub mod Chains
 pub mod Filling
+pub mod Same
 pub mod Parting

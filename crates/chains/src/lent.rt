@@ -1,4 +1,5 @@
 // Rows that travel together: those of a game's moves, of the whole game, and of the members of its blocks.
+ghost use Rattle.std.specs.Prelude.{◌≡◌};
 
 // The moves of a game: how many states and moves there are, the states that each move leaves and goes to, the chains of the moves into each
 // state, and how many moves each state needs.
@@ -28,9 +29,32 @@ pub struct Board<'a> {
 
 // The members of each block as chains, and how many there are: the last member of each block and the one before each member, counted
 // from 1; 0 for none.
-#[derive(Drop)]
+#[derive(Clone, Copy)]
 pub struct Members<'a> {
+    pub last: &'a [u16],
+    pub before: &'a [u16],
+    pub size: &'a [u16],
+}
+
+// The same rows, lent to be written.
+#[derive(Drop)]
+pub struct MembersMut<'a> {
     pub last: &'a mut [u16],
     pub before: &'a mut [u16],
     pub size: &'a mut [u16],
+}
+
+impl MembersMut<'_> {
+    // The rows, to be read.
+    pub fn shared(&self) -> Members<'_>
+        ensures last { result.last.now ≡ self.now.last.now }
+        ensures before { result.before.now ≡ self.now.before.now }
+        ensures size { result.size.now ≡ self.now.size.now }
+    {
+        Members {
+            last: self.last,
+            before: self.before,
+            size: self.size,
+        }
+    }
 }

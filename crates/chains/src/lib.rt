@@ -7,9 +7,9 @@ ghost use Rattle.std.specs.Prelude.{◌≡◌, cond, ℕ, ◌≤◌, ◌<◌, le
 ghost use Rattle.game.specs.Limits.{max_states, max_moves};
 ghost use Rattle.game.specs.Rows.{fill};
 ghost use Rattle.chains.specs.Lent.{Holds, Keys, many_of, last_below, Linked, rechained};
-ghost use Rattle.chains.specs.Grouped.{Roomy, MembersOf};
+ghost use Rattle.chains.specs.Grouped.{Roomy, GatheredIn, SameMembers};
 
-use lent::Members;
+use lent::MembersMut;
 
 // Writes 0 into the first n places.
 pub fn clear(n: usize, row: &mut [u16])
@@ -43,9 +43,10 @@ pub fn link(n: usize, m: usize, key: &[u16], last: &mut [u16], before: &mut [u16
 
 // The members of each block as chains, and how many there are: the last member of each block and the one before each
 // member, counted from 1; 0 for none.
-pub fn gather(n: usize, block: &[u16], members: &mut Members<'_>)
+pub fn gather(n: usize, block: &[u16], members: &mut MembersMut<'_>)
     requires { (n ≤ max_states) × Keys n n block.now × Roomy n members.old }
-    ensures { MembersOf n block.now members.new }
+    ensures gathered { GatheredIn n block.now members.new }
+    ensures same { SameMembers members.old members.new }
 {
     clear(n, members.last);
     link(n, n, block, members.last, members.before);

@@ -10,3 +10,4 @@ pub mod Passing
 pub mod Starting
 pub mod Says
 pub mod Members
+pub mod Same

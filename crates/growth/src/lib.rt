@@ -12,7 +12,7 @@ ghost use Rattle.game.specs.declared.Game.{Game};
 ghost use Rattle.growth.specs.Stamp.{pass_at, stamp_from, joining};
 ghost use Rattle.chains.specs.Lent.{Holds};
 ghost use Rattle.chains.specs.Grouped.{MovesOf, Chained, MembersOf};
-ghost use Rattle.growth.specs.Grouped.{net_of, CountedIn, GrownBy, RegrowingBy};
+ghost use Rattle.growth.specs.Grouped.{net_of, CountedIn, GrownBy, RegrowingBy, SameGrowth};
 
 use chains::clear;
 use chains::lent::{Members, Moves};
@@ -47,6 +47,7 @@ pub fn grow(
     requires linked { Chained moves.now × MembersOf moves.now.states block.now members.now × (moves.now.states ≤ length growth.old.hit.now) × CountedIn moves.now handled growth.old row.old }
     ensures grown { GrownBy (net_of moves.now whole block.now members.now) growth.new row.new }
     ensures stamped { (g : Game) (side : ℕ) → MovesOf g side moves.now block.now → Holds moves.now.states row.new (stamp_from (joining g side whole) (pass_at row.old) moves.now.states) }
+    ensures same { SameGrowth growth.old growth.new }
 {
     let entered = growth.tail;
     let have = &mut *growth.have;
@@ -71,6 +72,7 @@ pub fn grow_on(
     requires linked { Chained moves.now × MembersOf moves.now.states block.now members.now × (b < moves.now.states) × RegrowingBy (net_of moves.now true block.now members.now) (λ s. eqb b (get_or block.now s 0)) growth.old row.old }
     ensures grown { GrownBy (net_of moves.now true block.now members.now) growth.new row.new }
     ensures stamped { (g : Game) (side : ℕ) → MovesOf g side moves.now block.now → Holds moves.now.states row.new (stamp_from (joining g side true) (pass_at row.old) moves.now.states) }
+    ensures same { SameGrowth growth.old growth.new }
 {
     let entered = growth.tail;
     growth.tail = join_block(

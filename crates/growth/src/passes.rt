@@ -5,7 +5,7 @@ ghost use Rattle.chains.specs.Lent.{Holds};
 ghost use Rattle.chains.specs.Grouped.{Chained};
 ghost use Rattle.growth.specs.Net.{Sound, pass_of};
 ghost use Rattle.growth.specs.Queue.{Alike};
-ghost use Rattle.growth.specs.Grouped.{net_of, GrownBy};
+ghost use Rattle.growth.specs.Grouped.{net_of, GrownBy, SameGrowth};
 ghost use Rattle.growth.specs.Steps.{Chains, HandledBy, PassingBy};
 
 use crate::Growth;
@@ -25,7 +25,8 @@ fn walk(
     row: &mut [u16],
 )
     requires { Sound (net_of moves.now whole block.now members.now) × Chained moves.now × Chains moves.now.states block.now members.now × (q < growth.old.tail) × (1 ≤ number) × HandledBy (net_of moves.now whole block.now members.now) (pass_at row.old) number q growth.old.queue.now growth.old row.old }
-    ensures { HandledBy (net_of moves.now whole block.now members.now) (pass_at row.old) number (q + 1) growth.old.queue.now growth.new row.new × (growth.old.tail ≤ growth.new.tail) × Alike growth.old.tail growth.new.queue.now growth.old.queue.now }
+    ensures walked { HandledBy (net_of moves.now whole block.now members.now) (pass_at row.old) number (q + 1) growth.old.queue.now growth.new row.new × (growth.old.tail ≤ growth.new.tail) × Alike growth.old.tail growth.new.queue.now growth.old.queue.now }
+    ensures same { SameGrowth growth.old growth.new }
 {
     // Each row is named once: after a write through a struct the places of all its rows would be fetched anew.
     let have = &mut *growth.have;
@@ -66,7 +67,8 @@ pub fn run_passes(
     row: &mut [u16],
 )
     requires { Sound (net_of moves.now whole block.now members.now) × Chained moves.now × Chains moves.now.states block.now members.now × ((f : ℕ → ℕ) × PassingBy (net_of moves.now whole block.now members.now) f 0 entered first growth.old row.old) }
-    ensures { GrownBy (net_of moves.now whole block.now members.now) growth.new row.new × ((f : ℕ → ℕ) → PassingBy (net_of moves.now whole block.now members.now) f 0 entered first growth.old row.old → Holds moves.now.states row.new (pass_of (net_of moves.now whole block.now members.now) f moves.now.states)) }
+    ensures passed { GrownBy (net_of moves.now whole block.now members.now) growth.new row.new × ((f : ℕ → ℕ) → PassingBy (net_of moves.now whole block.now members.now) f 0 entered first growth.old row.old → Holds moves.now.states row.new (pass_of (net_of moves.now whole block.now members.now) f moves.now.states)) }
+    ensures same { SameGrowth growth.old growth.new }
 {
     // A copy of its own, whose rows no write can move.
     let moves = *moves;

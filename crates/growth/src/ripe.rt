@@ -4,6 +4,7 @@ ghost use Rattle.game.specs.Limits.{max_states};
 ghost use Rattle.chains.specs.Lent.{Holds, Keys};
 ghost use Rattle.chains.specs.Grouped.{MembersOf};
 ghost use Rattle.growth.specs.Net.{hits_of, ripe_by};
+ghost use Rattle.growth.specs.Grouped.{SameGrowth};
 ghost use Rattle.growth.specs.Steps.{ListedIn, JoinedBy};
 
 use crate::Growth;
@@ -46,7 +47,8 @@ pub fn join_ripe(
     row: &mut [u16],
 )
     requires { (n ≤ max_states) × Keys n n block.now × MembersOf n block.now members.now × (n ≤ length growth.old.hit.now) × (n ≤ length row.old) × ListedIn n growth.old row.old }
-    ensures { JoinedBy n (λ s. ripe_by whole members.now.size.now growth.old.hit.now (get_or block.now s 0)) 2 growth.old row.old growth.new row.new }
+    ensures joined { JoinedBy n (λ s. ripe_by whole members.now.size.now growth.old.hit.now (get_or block.now s 0)) 2 growth.old row.old growth.new row.new }
+    ensures same { SameGrowth growth.old growth.new }
 {
     let size = &*members.size;
     let hit = &mut *growth.hit;

@@ -10,13 +10,13 @@ ghost use Rattle.rows.specs.RoundRows.{Saying, Numbered};
 ghost use Rattle.rows.specs.Grouped.{PresentOn, LoweredOn, FinishingOn, FinalOn};
 
 use chains::copy_row;
-use chains::lent::{Board, Members};
+use chains::lent::{Board, MembersMut};
 use game::Game;
 use growth::Growth;
 use play::{last_round, play_rounds};
 use rows::sets;
 use rows::sets::Row;
-use runs::log::SplitLog;
+use runs::log::SplitLogMut;
 
 // How a run came out: the splits, and the rows of its last round: the pass in which each state entered what the hunting
 // side surely brings about, and what it may.
@@ -32,7 +32,7 @@ fn last_lower(
     board: &Board<'_>,
     made: usize,
     block: &[u16],
-    members: &mut Members<'_>,
+    members: &mut MembersMut<'_>,
     growth: &mut Growth<'_>,
     lower: &mut [u16],
 )
@@ -51,7 +51,7 @@ fn last_rows(
     board: &Board<'_>,
     made: usize,
     block: &[u16],
-    members: &mut Members<'_>,
+    members: &mut MembersMut<'_>,
     growth: &mut Growth<'_>,
     lower: &mut [u16],
 ) -> Row
@@ -60,7 +60,19 @@ fn last_rows(
     ensures { (f : FinishingOn board.now made block.now members.old growth.old lower.old) → Numbered f.game board.now.moves.states lower.new × Saying board.now.moves.states result (upper_states f.game) }
 {
     last_lower(board, made, block, members, growth, lower);
-    sets::upper_row(&board.moves, block, members, growth, lower)
+    let have = &mut *growth.have;
+    let hit = &mut *growth.hit;
+    let queue = &mut *growth.queue;
+    sets::upper_row(
+        &board.moves,
+        block,
+        &members.shared(),
+        have,
+        hit,
+        lower,
+        queue,
+        growth.tail,
+    )
 }
 
 // Rounds until one is settled or the splits made equal the allowance. The blocks of the last round take the place of those
@@ -78,7 +90,7 @@ pub fn run_rounds(board: &Board<'_>, allowance: u16, block: &mut [u16]) -> Ran
     let mut parents = [0u16; Game::MAX_STATES];
     let mut names = [0u16; Game::MAX_STATES];
     let mut lower = [0u16; Game::MAX_STATES];
-    let mut members = Members {
+    let mut members = MembersMut {
         last: &mut last,
         before: &mut before,
         size: &mut size,
@@ -89,7 +101,7 @@ pub fn run_rounds(board: &Board<'_>, allowance: u16, block: &mut [u16]) -> Ran
         queue: &mut queue,
         tail: 0,
     };
-    let mut log = SplitLog {
+    let mut log = SplitLogMut {
         parents: &mut parents,
         names: &mut names,
         made: 0,
@@ -113,7 +125,7 @@ pub fn run_rounds(board: &Board<'_>, allowance: u16, block: &mut [u16]) -> Ran
         &mut lower,
         &mut log,
     );
-    let splits = last_round(board, allowed, stop, &log, block);
+    let splits = last_round(board, allowed, stop, &log.shared(), block);
     let upper = last_rows(
         board,
         log.made,

@@ -27,7 +27,6 @@ use Rattle.chains.specs.Lent.{cell_at, Linked}
 use Rattle.chains.specs.declared.lent.Board.{Board}
 use Rattle.chains.specs.declared.lent.Members.{Members}
 use Rattle.chains.proofs.Chains.{last-le, last_is, last_none}
-use Rattle.growth.specs.declared.Growth.{Growth}
 use Rattle.growth.proofs.Seen.{leads, keeps, seen, seen_none, seen_same, seen_all}
 use Rattle.rounds.specs.Border.{bordering, border_answer}
 use Rattle.rounds.specs.Search.{first_move, Search}
@@ -192,9 +191,9 @@ module _ {g : Game} {side n m : ℕ} {turn first to block last before lower hit 
       border-member s m w f = by_members ∙ some_found g.states crossing s (omega (arith, q.states_is)) (both _ _ (eq-eqb _ _ (sym (q.block_is.cell s m) ∙ w ∙ sym own_number)) f)
 
 -- no game that the rows are of has state t in the side's forced-step set of the lower row
-abbrev pub Outside : Board → List ℕ → Members → Growth → List ℕ → ℕ → Type 0
-Outside board block members growth lower t =
-    (g : Game) → SearchOn g board block members growth lower → forced (arena_of g) (side_of board.side) (is_in lower) t ≡ false
+abbrev pub Outside : Board → List ℕ → Members → List ℕ → List ℕ → ℕ → Type 0
+Outside board block members hit lower t =
+    (g : Game) → SearchOn g board block members hit lower → forced (arena_of g) (side_of board.side) (is_in lower) t ≡ false
 
 -- ## The answer
 

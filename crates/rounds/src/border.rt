@@ -10,7 +10,6 @@ ghost use Rattle.rounds.specs.Grouped.{SearchOn};
 use chains::clear;
 use chains::lent::{Board, Members};
 use game::BlockNo;
-use growth::Growth;
 
 // Where each state's moves begin: those of s are from first[s] up to first[s + 1], since moves ascend.
 pub fn first_moves(n: usize, m: usize, from: &[u16], first: &mut [u16])
@@ -46,15 +45,15 @@ pub fn border_block(
     board: &Board<'_>,
     block: &[u16],
     members: &Members<'_>,
-    growth: &Growth<'_>,
+    hit: &[u16],
     lower: &[u16],
 ) -> Option<BlockNo>
-    requires { ((g : Game) × SearchOn g board.now block.now members.now growth.now lower.now) × (board.now.moves.states ≤ length lower.now) × (board.now.moves.states ≤ length growth.now.hit.now) }
-    ensures { (g : Game) → SearchOn g board.now block.now members.now growth.now lower.now → result ≡ border_answer board.now.moves.states (bordering g board.now.side lower.now) }
+    requires { ((g : Game) × SearchOn g board.now block.now members.now hit.now lower.now) × (board.now.moves.states ≤ length lower.now) × (board.now.moves.states ≤ length hit.now) }
+    ensures { (g : Game) → SearchOn g board.now block.now members.now hit.now lower.now → result ≡ border_answer board.now.moves.states (bordering g board.now.side lower.now) }
 {
     'search: {
         for b in 0..board.moves.states {
-            if is_open(block[b], b as u16, lower[b], growth.hit[b]) {
+            if is_open(block[b], b as u16, lower[b], hit[b]) {
                 let mut at = members.last[b] as usize;
                 // No range counts these: each member tells the one before it, down to 0.
                 while at > 0 {

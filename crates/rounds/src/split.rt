@@ -3,14 +3,13 @@ ghost use Rattle.std.specs.Prelude.{◌≡◌, not, ◌&&◌, cond, ◌≤◌, �
 ghost use Rattle.arena.specs.Sets.{least};
 ghost use Rattle.game.specs.Limits.{max_states};
 ghost use Rattle.chains.specs.Lent.{Holds};
-ghost use Rattle.chains.specs.Grouped.{MembersOf};
+ghost use Rattle.chains.specs.Grouped.{GatheredIn, SameMembers};
 ghost use Rattle.growth.specs.Net.{hits_of};
 ghost use Rattle.rounds.specs.Renamed.{enough, row_apart, after_split};
 ghost use Rattle.rounds.specs.Grouped.{parted_off, Parting};
 
-use chains::lent::{Members, Moves};
+use chains::lent::{MembersMut, Moves};
 use chains::relink;
-use growth::Growth;
 
 // The lowest member of block b in the part that state b is not in; the number of states where there is none. It is no Option, since
 // `split_block` promises that number by `named`.
@@ -71,20 +70,18 @@ fn only_if(test: bool, number: u16) -> u16
 pub fn part_block(
     moves: &Moves<'_>,
     b: usize,
+    have: &[u16],
     block: &mut [u16],
-    members: &mut Members<'_>,
-    growth: &mut Growth<'_>,
+    members: &mut MembersMut<'_>,
+    hit: &mut [u16],
 ) -> u16
-    requires { Parting moves.now b block.old members.old growth.old }
-    ensures named { result ≡ parted_off moves.now b block.old growth.old }
-    ensures parted { Holds moves.now.states block.new (after_split result block.old b (enough moves.now.need.now growth.old.have.now)) }
-    ensures gathered { MembersOf moves.now.states block.new members.new × Holds moves.now.states growth.new.hit.now (hits_of moves.now.states block.new moves.now.need.now (λ s. get_or growth.old.have.now s 0)) }
-    ensures counted { growth.new.have.now ≡ growth.old.have.now }
-    ensures queued { growth.new.queue.now ≡ growth.old.queue.now }
-    ensures end { growth.new.tail ≡ growth.old.tail }
+    requires { Parting moves.now b have.now block.old members.old hit.old }
+    ensures named { result ≡ parted_off moves.now b block.old have.now }
+    ensures parted { Holds moves.now.states block.new (after_split result block.old b (enough moves.now.need.now have.now)) }
+    ensures gathered { GatheredIn moves.now.states block.new members.new × Holds moves.now.states hit.new (hits_of moves.now.states block.new moves.now.need.now (λ s. get_or have.now s 0)) }
+    ensures same { SameMembers members.old members.new }
 {
     let n = moves.states;
-    let have = &mut *growth.have;
     let name = split_block(n, b, moves.need, have, block);
     let inside = have[b] >= moves.need[b];
     let other = name as usize;
@@ -94,7 +91,7 @@ pub fn part_block(
     members.last[other] = two.last;
     members.size[b] = one.size;
     members.size[other] = two.size;
-    growth.hit[b] = only_if(inside, one.size);
-    growth.hit[other] = only_if(!inside, two.size);
+    hit[b] = only_if(inside, one.size);
+    hit[other] = only_if(!inside, two.size);
     name
 }

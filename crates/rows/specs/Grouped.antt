@@ -4,8 +4,10 @@ use Rattle.game.specs.declared.Game.{Game}
 use Rattle.chains.specs.declared.lent.Board.{Board}
 use Rattle.chains.specs.declared.lent.Moves.{Moves}
 use Rattle.chains.specs.declared.lent.Members.{Members}
+use Rattle.chains.specs.declared.lent.MembersMut.{MembersMut}
 use Rattle.growth.specs.declared.Growth.{Growth}
 use Rattle.runs.specs.declared.log.SplitLog.{SplitLog}
+use Rattle.runs.specs.declared.log.SplitLogMut.{SplitLogMut}
 use Rattle.rows.specs.RoundRows.{Present, Lowered, Underway, Retracing, Begun, Played, Ending, Finishing, Final}
 
 -- the present blocks of a game, and what the board says of it but for the side that hunts, the turns and where each state's moves begin
@@ -19,14 +21,19 @@ abbrev pub PresentOn : Game → Board → List ℕ → Type 0
 PresentOn g board = PresentBy g board.side board.turn.now board.first.now board
 
 -- the members of the present blocks, and the set that the hunting side surely brings about
-abbrev pub LoweredOn : Game → Moves → List ℕ → Members → Growth → List ℕ → Type 0
+abbrev pub LoweredOn : Game → Moves → List ℕ → MembersMut → Growth → List ℕ → Type 0
 LoweredOn g moves block members growth lower =
     Lowered g moves.states moves.moves moves.from.now moves.to.now moves.need.now block members.last.now members.before.now members.size.now growth.have.now growth.hit.now lower growth.queue.now growth.tail
 
 -- a round that is under way
-abbrev pub UnderwayOn : Moves → List ℕ → Members → Growth → List ℕ → Type 0
+abbrev pub UnderwayOn : Moves → List ℕ → MembersMut → Growth → List ℕ → Type 0
 UnderwayOn moves block members growth lower =
     Underway moves.states moves.moves moves.from.now moves.to.now moves.last.now moves.before.now moves.need.now block members.last.now members.before.now members.size.now growth.have.now growth.hit.now lower growth.queue.now growth.tail
+
+-- the same, of rows that are lent to be read
+abbrev pub UnderwayBy : Moves → List ℕ → Members → List ℕ → List ℕ → List ℕ → List ℕ → ℕ → Type 0
+UnderwayBy moves block members have hit lower queue tail =
+    Underway moves.states moves.moves moves.from.now moves.to.now moves.last.now moves.before.now moves.need.now block members.last.now members.before.now members.size.now have hit lower queue tail
 
 -- a run whose round after the splits of the log is lost for the hunting side, and none of the first `clear` rounds is
 abbrev pub RetracingOn : Board → ℕ → SplitLog → List ℕ → Type 0
@@ -35,13 +42,13 @@ RetracingOn board clear log block =
     Retracing moves.states moves.moves board.objective clear log.made board.starts.now moves.from.now moves.to.now moves.last.now moves.before.now moves.need.now board.prey.now log.parents.now log.names.now block
 
 -- a run begins: its first round is worked out
-abbrev pub BegunOn : Board → List ℕ → Members → Growth → List ℕ → Type 0
+abbrev pub BegunOn : Board → List ℕ → MembersMut → Growth → List ℕ → Type 0
 BegunOn board block members growth lower =
     let moves = board.moves in
     Begun board.side moves.states moves.moves board.objective board.turn.now board.starts.now moves.from.now moves.to.now moves.last.now moves.before.now moves.need.now board.first.now board.prey.now block members.last.now members.before.now members.size.now growth.have.now growth.hit.now lower growth.queue.now growth.tail
 
 -- the round after the splits of the log of a run of g is worked out
-abbrev pub PlayedOn : Game → Board → List ℕ → Members → Growth → List ℕ → SplitLog → ℕ → Type 0
+abbrev pub PlayedOn : Game → Board → List ℕ → MembersMut → Growth → List ℕ → SplitLogMut → ℕ → Type 0
 PlayedOn g board block members growth lower log clear =
     let moves = board.moves in
     Played g board.side moves.states moves.moves board.objective board.turn.now board.starts.now moves.from.now moves.to.now moves.last.now moves.before.now moves.need.now board.first.now board.prey.now block members.last.now members.before.now members.size.now growth.have.now growth.hit.now lower growth.queue.now log.parents.now log.names.now log.made clear growth.tail
@@ -53,7 +60,7 @@ EndingOn board allowance clear lost log block =
     Ending moves.states moves.moves board.objective allowance clear log.made lost board.starts.now moves.from.now moves.to.now moves.last.now moves.before.now moves.need.now board.prey.now log.parents.now log.names.now block
 
 -- the last game of a run; where no split was made its lower row is there already
-abbrev pub FinishingOn : Board → ℕ → List ℕ → Members → Growth → List ℕ → Type 0
+abbrev pub FinishingOn : Board → ℕ → List ℕ → MembersMut → Growth → List ℕ → Type 0
 FinishingOn board made block members growth lower =
     let moves = board.moves in
     Finishing moves.states moves.moves made growth.tail moves.from.now moves.to.now moves.last.now moves.before.now moves.need.now board.prey.now block members.last.now members.before.now members.size.now growth.have.now growth.hit.now lower growth.queue.now

@@ -3,14 +3,14 @@ ghost use Rattle.std.specs.Prelude.{◌≡◌, List, ℕ, ◌≤◌, length, get
 ghost use Rattle.game.specs.Limits.{max_states};
 ghost use Rattle.game.specs.declared.Game.{Game};
 ghost use Rattle.growth.specs.Stamp.{pass_at, stamp_from, joining};
-ghost use Rattle.growth.specs.Grouped.{net_of, GrownBy, Spacious};
+ghost use Rattle.growth.specs.Grouped.{net_in, GrownBy, Spacious, SameGrowth};
 ghost use Rattle.chains.specs.Lent.{Holds};
-ghost use Rattle.chains.specs.Grouped.{MovesOf, Chained, MembersOf, Roomy};
+ghost use Rattle.chains.specs.Grouped.{MovesOf, Chained, GatheredIn, Roomy, SameMembers};
 ghost use Rattle.runs.specs.Hunting.{upper_states, catchable};
 ghost use Rattle.rows.specs.RoundRows.{Saying};
-ghost use Rattle.rows.specs.Grouped.{PresentBy, UnderwayOn};
+ghost use Rattle.rows.specs.Grouped.{PresentBy, UnderwayBy};
 
-use chains::lent::{Board, Members, Moves};
+use chains::lent::{Board, Members, MembersMut, Moves};
 use chains::{clear, copy_row, gather};
 use game::Game;
 use growth::{Growth, grow, list_states};
@@ -25,19 +25,20 @@ pub fn grow_anew(
     moves: &Moves<'_>,
     whole: bool,
     block: &[u16],
-    members: &mut Members<'_>,
+    members: &mut MembersMut<'_>,
     growth: &mut Growth<'_>,
     row: &mut [u16],
 )
     requires lent { (g : Game) × (side : ℕ) × MovesOf g side moves.now block.now }
     requires linked { Chained moves.now × Roomy moves.now.states members.old × Spacious moves.now.states growth.old × (moves.now.states ≤ length row.old) }
-    ensures gathered { MembersOf moves.now.states block.now members.new × GrownBy (net_of moves.now whole block.now members.new) growth.new row.new }
+    ensures gathered { GatheredIn moves.now.states block.now members.new × GrownBy (net_in moves.now whole block.now members.new) growth.new row.new }
     ensures stamped { (g : Game) (side : ℕ) → MovesOf g side moves.now block.now → Holds moves.now.states row.new (stamp_from (joining g side whole) (pass_at row.old) moves.now.states) }
+    ensures same { SameMembers members.old members.new × SameGrowth growth.old growth.new }
 {
     gather(moves.states, block, members);
     clear(moves.states, growth.have);
     growth.tail = list_states(moves.states, row, growth.queue);
-    grow(moves, whole, 0, block, members, growth, row);
+    grow(moves, whole, 0, block, &members.shared(), growth, row);
 }
 
 // What the hunting side may bring about grows on from what it surely does.
@@ -45,34 +46,29 @@ pub fn upper_row(
     moves: &Moves<'_>,
     block: &[u16],
     members: &Members<'_>,
-    growth: &Growth<'_>,
+    have: &[u16],
+    hit: &[u16],
     lower: &[u16],
+    queue: &[u16],
+    tail: usize,
 ) -> Row
-    requires { UnderwayOn moves.now block.now members.now growth.now lower.now }
-    ensures { (u : UnderwayOn moves.now block.now members.now growth.now lower.now) → Saying moves.now.states result (upper_states u.game) }
+    requires { UnderwayBy moves.now block.now members.now have.now hit.now lower.now queue.now tail }
+    ensures { (u : UnderwayBy moves.now block.now members.now have.now hit.now lower.now queue.now tail) → Saying moves.now.states result (upper_states u.game) }
 {
     let mut counts = [0u16; Game::MAX_STATES];
     let mut hits = [0u16; Game::MAX_STATES];
     let mut row = [0u16; Game::MAX_STATES];
     let mut listed = [0u16; Game::MAX_STATES];
-    copy_row(moves.states, growth.have, &mut counts);
+    copy_row(moves.states, have, &mut counts);
     copy_row(moves.states, lower, &mut row);
-    copy_row(moves.states, growth.queue, &mut listed);
+    copy_row(moves.states, queue, &mut listed);
     let mut further = Growth {
         have: &mut counts,
         hit: &mut hits,
         queue: &mut listed,
-        tail: growth.tail,
+        tail,
     };
-    grow(
-        moves,
-        false,
-        growth.tail,
-        block,
-        members,
-        &mut further,
-        &mut row,
-    );
+    grow(moves, false, tail, block, members, &mut further, &mut row);
     row
 }
 
@@ -88,7 +84,7 @@ pub fn may_have_way(board: &Board<'_>, block: &[u16]) -> bool
     let mut hit = [0u16; Game::MAX_STATES];
     let mut queue = [0u16; Game::MAX_STATES];
     let mut row = [0u16; Game::MAX_STATES];
-    let mut members = Members {
+    let mut members = MembersMut {
         last: &mut last,
         before: &mut before,
         size: &mut size,

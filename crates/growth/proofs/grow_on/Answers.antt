@@ -13,4 +13,4 @@ run_passes-requires c =
 pub returns-clause-stamped : goal.returns-clause-stamped
 returns-clause-stamped c = λ g side lent.
     let linked = c.requires.linked in
-    row_says lent linked.1 true (pass_at c.args.row.now) (c.run_passes.ensures.1 (pass_at c.args.row.now) (pass_first _ linked.3.counted linked.3.hit_is linked.3.due c.join_block-growth.ensures))
+    row_says lent linked.1 true (pass_at c.args.row.now) (c.run_passes.ensures.passed.1 (pass_at c.args.row.now) (pass_first _ linked.3.counted linked.3.hit_is linked.3.due c.join_block-growth.ensures))

@@ -29,24 +29,24 @@ play_rounds-stop-requires c =
 pub last_round-splits-requires : goal.last_round-splits-requires
 last_round-splits-requires c =
     let done = c.grow_anew.ensures in
-    stops c.requires.1 c.copy_row.ensures.held (done.stamped c.requires.0 c.args.board.now.side (lent c.requires.1)) done.gathered.0 done.gathered.1 c.play_rounds-stop.ensures
+    rw (c.shared.ensures.parents, c.shared.ensures.names, c.shared.ensures.made) (stops c.requires.1 c.copy_row.ensures.held (done.stamped c.requires.0 c.args.board.now.side (lent c.requires.1)) done.gathered.0 done.gathered.1 c.play_rounds-stop.ensures.played)
 
 pub last_rows-upper-requires : goal.last_rows-upper-requires
 last_rows-upper-requires c =
     let done = c.grow_anew.ensures in
     let few = few-states c.requires.1 in
     record {
-      finishing = finishes c.requires.1 c.copy_row.ensures.held (done.stamped c.requires.0 c.args.board.now.side (lent c.requires.1)) done.gathered.0 done.gathered.1 c.play_rounds-stop.ensures c.last_round-splits.ensures;
-      room = (let y = (c.play_rounds-stop.ensures (begins c.requires.1 c.copy_row.ensures.held (done.stamped c.requires.0 c.args.board.now.side (lent c.requires.1)) done.gathered.0 done.gathered.1)).0.lowered in ((y.gathered.chains.lasts.long, y.gathered.chains.befores.long, y.gathered.sizes.long), (y.grown.counted.counts.long, y.grown.hit_is.long, y.grown.counted.listed.room), y.grown.counted.row-long));
+      finishing = finishes c.requires.1 c.copy_row.ensures.held (done.stamped c.requires.0 c.args.board.now.side (lent c.requires.1)) done.gathered.0 done.gathered.1 c.play_rounds-stop.ensures.played (rw (c.shared.ensures.parents, c.shared.ensures.names, c.shared.ensures.made) at c.last_round-splits.ensures);
+      room = (let y = (c.play_rounds-stop.ensures.played (begins c.requires.1 c.copy_row.ensures.held (done.stamped c.requires.0 c.args.board.now.side (lent c.requires.1)) done.gathered.0 done.gathered.1)).0.lowered in ((y.gathered.chains.lasts.long, y.gathered.chains.befores.long, y.gathered.sizes.long), (y.grown.counted.counts.long, y.grown.hit_is.long, y.grown.counted.listed.room), y.grown.counted.row-long));
     }
 
 pub overflow_cast-result : goal.overflow_cast-result
 overflow_cast-result c =
     let done = c.grow_anew.ensures in
-    fits c.requires.1 c.copy_row.ensures.held (done.stamped c.requires.0 c.args.board.now.side (lent c.requires.1)) done.gathered.0 done.gathered.1 c.play_rounds-stop.ensures c.last_round-splits.ensures
+    fits c.requires.1 c.copy_row.ensures.held (done.stamped c.requires.0 c.args.board.now.side (lent c.requires.1)) done.gathered.0 done.gathered.1 c.play_rounds-stop.ensures.played (rw (c.shared.ensures.parents, c.shared.ensures.names, c.shared.ensures.made) at c.last_round-splits.ensures)
 
 pub returns : goal.returns
 returns c =
     λ g p.
     let done = c.grow_anew.ensures in
-    ends p c.copy_row.ensures.held (done.stamped g c.args.board.now.side (lent p)) done.gathered.0 done.gathered.1 c.play_rounds-stop.ensures c.last_round-splits.ensures c.last_rows-upper.ensures
+    ends p c.copy_row.ensures.held (done.stamped g c.args.board.now.side (lent p)) done.gathered.0 done.gathered.1 c.play_rounds-stop.ensures.played (rw (c.shared.ensures.parents, c.shared.ensures.names, c.shared.ensures.made) at c.last_round-splits.ensures) c.last_rows-upper.ensures

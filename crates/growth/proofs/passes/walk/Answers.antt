@@ -26,5 +26,5 @@ loop-at-preserved c =
           (turning c.requires.0 c.requires.1 (step_quiet c.requires.0 c.requires.1 inv.0 left refl refl refl refl refl w.if-more-moves.false))
     ]
 
-pub returns : goal.returns
-returns c = (walk_ends c.requires.0 c.requires.1 c.loop-at.invariant.0 refl c.loop-at-test.false, c.loop-at.invariant.0.more, c.loop-at.invariant.0.alike)
+pub returns-clause-walked : goal.returns-clause-walked
+returns-clause-walked c = (walk_ends c.requires.0 c.requires.1 c.loop-at.invariant.0 refl c.loop-at-test.false, c.loop-at.invariant.0.more, c.loop-at.invariant.0.alike)

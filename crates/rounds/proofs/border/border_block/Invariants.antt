@@ -16,15 +16,15 @@ use Rattle.rounds.proofs.border.border_block.Given as goal
 abbrev pub invariant-loop-k : goal.invariant-loop-k
 invariant-loop-k l =
     (get_or l.board.first.now l.s 0 ≤ l.k) × (l.k ≤ l.board.moves.moves) × (l.end ≤ l.board.moves.moves) × ((j : ℕ) → j < l.end → get_or l.board.moves.to.now j 0 < l.board.moves.states)
-    × ((g : Game) → SearchOn g l.board l.block l.members l.growth l.lower → l.known ≡ seen g l.board.side (is_in l.lower) l.k l.s)
+    × ((g : Game) → SearchOn g l.board l.block l.members l.hit l.lower → l.known ≡ seen g l.board.side (is_in l.lower) l.k l.s)
 
 abbrev pub invariant-loop-at : goal.invariant-loop-at
 invariant-loop-at l =
-    Passed l.board.moves.states l.block l.b (Outside l.board l.block l.members l.growth l.lower) l.at
+    Passed l.board.moves.states l.block l.b (Outside l.board l.block l.members l.hit l.lower) l.at
 
 abbrev pub decreases-loop-at : goal.decreases-loop-at
 decreases-loop-at l = l.at
 
 abbrev pub invariant-loop-b : goal.invariant-loop-b
 invariant-loop-b l =
-    (l.b ≤ l.board.moves.states) × ((g : Game) → SearchOn g l.board l.block l.members l.growth l.lower → some l.b (bordering g l.board.side l.lower) ≡ false)
+    (l.b ≤ l.board.moves.states) × ((g : Game) → SearchOn g l.board l.block l.members l.hit l.lower → some l.b (bordering g l.board.side l.lower) ≡ false)

@@ -30,10 +30,10 @@ pub copy_row-requires : goal.copy_row-requires
 copy_row-requires c = (let t = c.requires in let inv = c.loop-low.invariant in ((inv.2 t).1.long, omega (arith, c.loop-low.invariant.4, few-states t.present)))
 
 pub rewind-requires : goal.rewind-requires
-rewind-requires c = (let t = c.requires in let inv = c.loop-low.invariant in ((t.game, t.log, inv.1, omega (arith, c.loop-low-test.true), copied c.copy_row.ensures.held (inv.2 t).1), few-states t.present))
+rewind-requires c = (let t = c.requires in let inv = c.loop-low.invariant in ((t.game, c.args.log.now.made, t.log, inv.1, omega (arith, c.loop-low-test.true), copied c.copy_row.ensures.held (inv.2 t).1), few-states t.present))
 
 pub may_have_way-requires : goal.may_have_way-requires
-may_have_way-requires c = (let t = c.requires in let inv = c.loop-low.invariant in (round lowest_first _ t.game, t.side, t.turn, t.first, present-round _ t.present (c.rewind.ensures t.game t.log inv.1 (copied c.copy_row.ensures.held (inv.2 t).1))))
+may_have_way-requires c = (let t = c.requires in let inv = c.loop-low.invariant in (round lowest_first _ t.game, t.side, t.turn, t.first, present-round _ t.present (c.rewind.ensures t.game c.args.log.now.made t.log inv.1 (copied c.copy_row.ensures.held (inv.2 t).1))))
 
 pub overflow_add-low : goal.overflow_add-low
 overflow_add-low c = omega (arith, c.loop-low-test.true, c.loop-low.invariant.1)
@@ -48,7 +48,7 @@ loop-low-preserved-then-may_have_way c =
       omega (arith, left),
       inv.1,
       (λ t.
-          let there = c.rewind.ensures t.game t.log inv.1 (copied c.copy_row.ensures.held (inv.2 t).1) in
+          let there = c.rewind.ensures t.game c.args.log.now.made t.log inv.1 (copied c.copy_row.ensures.held (inv.2 t).1) in
           (bisect_right t.present.accepted (inv.2 t).0 _ (omega (arith, left)) (sym (c.may_have_way.ensures _ t.side t.turn t.first (present-round _ t.present there)) ∙ c.if-may_have_way.true), (inv.2 t).1)),
       inv.3,
       search rules,
@@ -58,7 +58,7 @@ loop-low-preserved-then-may_have_way c =
 pub copy_row-requires-else-may_have_way : goal.copy_row-requires-else-may_have_way
 copy_row-requires-else-may_have_way c =
     (let t = c.requires in let inv = c.loop-low.invariant in
-    let there = c.rewind.ensures t.game t.log inv.1 (copied c.copy_row.ensures.held (inv.2 t).1) in
+    let there = c.rewind.ensures t.game c.args.log.now.made t.log inv.1 (copied c.copy_row.ensures.held (inv.2 t).1) in
     (there.long, (inv.2 t).1.long))
 
 pub loop-low-smaller : goal.loop-low-smaller
@@ -71,9 +71,9 @@ loop-low-preserved c =
       omega (arith, left),
       omega (arith, left, inv.1),
       (λ t.
-          let there = c.rewind.ensures t.game t.log inv.1 (copied c.copy_row.ensures.held (inv.2 t).1) in
+          let there = c.rewind.ensures t.game c.args.log.now.made t.log inv.1 (copied c.copy_row.ensures.held (inv.2 t).1) in
           (bisect_left (inv.2 t).0 _ (omega arith) (sym (c.may_have_way.ensures _ t.side t.turn t.first (present-round _ t.present there)) ∙ c.if-may_have_way.false), copied c.copy_row-else-may_have_way.ensures.held there)),
-      c.block-1.given ∙ inv.3,
+      search rules,
       search rules,
       λ z. absurd (omega (arith, left, inv.1)),
     )

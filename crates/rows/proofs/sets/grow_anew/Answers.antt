@@ -25,8 +25,11 @@ pub grow-requires : goal.grow-requires
 grow-requires c =
     record {
       lent = c.requires.lent;
-      linked = (c.requires.linked.0, c.gather.ensures, c.requires.linked.2.1, counted_none _ _ _ _ c.clear.ensures c.list_states-growth.ensures c.requires.linked.3);
+      linked = (c.requires.linked.0, rw (c.shared.ensures.last, c.shared.ensures.before, c.shared.ensures.size) c.gather.ensures.gathered, c.requires.linked.2.1, counted_none _ _ _ _ c.clear.ensures c.list_states-growth.ensures c.requires.linked.3);
     }
 
-pub returns : goal.returns
-returns c = record { gathered = (c.gather.ensures, c.grow.ensures.grown); stamped = c.grow.ensures.stamped }
+pub returns-clause-gathered : goal.returns-clause-gathered
+returns-clause-gathered c = (c.gather.ensures.gathered, rw c.shared.ensures.size at c.grow.ensures.grown)
+
+pub returns-clause-stamped : goal.returns-clause-stamped
+returns-clause-stamped c = c.grow.ensures.stamped

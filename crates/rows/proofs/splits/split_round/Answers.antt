@@ -33,10 +33,14 @@ grow_on-requires c =
     let part = c.part_block-name.ensures in
     let chosen = c.inner_part-inner.ensures in
     let here = next-present p q next part.named part.parted part.gathered.0 part.gathered.1 in
-    record { lent = (split_game lowest_first u.game, u.side, lent here); linked = (p.chains, part.gathered.0, inner_small p q next part.named part.parted part.gathered.0 part.gathered.1 chosen, rw (part.counted, part.queued, part.end) (inner-due p q next part.named part.parted part.gathered.0 part.gathered.1 chosen)) })
+    record { lent = (split_game lowest_first u.game, u.side, lent here); linked = (p.chains, rw (c.shared.ensures.last, c.shared.ensures.before, c.shared.ensures.size) part.gathered.0, inner_small p q next part.named part.parted part.gathered.0 part.gathered.1 chosen, rw c.shared.ensures.size (inner-due p q next part.named part.parted part.gathered.0 part.gathered.1 chosen)) })
 
-pub returns : goal.returns
-returns c =
+pub returns-clause-named : goal.returns-clause-named
+returns-clause-named c = c.part_block-name.ensures.named
+
+pub returns-clause-split : goal.returns-clause-split
+returns-clause-split c =
+    λ u next.
     let part = c.part_block-name.ensures in
     let grown = c.grow_on.ensures in
-    record { named = part.named; split = λ u next. (next-blocks u.present u.lowered next part.named part.parted part.gathered.0 part.gathered.1, next-lowered u.present u.lowered next part.named part.parted part.gathered.0 part.gathered.1 grown.grown (grown.stamped (split_game lowest_first u.game) u.side (lent (next-present u.present u.lowered next part.named part.parted part.gathered.0 part.gathered.1)))) }
+    (next-blocks u.present u.lowered next part.named part.parted part.gathered.0 part.gathered.1, next-lowered u.present u.lowered next part.named part.parted part.gathered.0 part.gathered.1 (rw c.shared.ensures.size at grown.grown) (grown.stamped (split_game lowest_first u.game) u.side (lent (next-present u.present u.lowered next part.named part.parted part.gathered.0 part.gathered.1))))
