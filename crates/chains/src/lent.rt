@@ -15,7 +15,7 @@ pub struct Moves<'a> {
 }
 
 // What stays as it is in all rounds: the objective, the side that hunts, whose turn each state is, the marks of the file, the prey, where
-// each state's moves begin, and the moves.
+// each state's moves begin, and the moves. Objective and side are the numbers of the file, since `has_way` and `hunting_side` answer for every number.
 #[derive(Clone, Copy)]
 pub struct Board<'a> {
     pub objective: u16,
@@ -28,7 +28,7 @@ pub struct Board<'a> {
 }
 
 // The members of each block as chains, and how many there are: the last member of each block and the one before each member, counted
-// from 1; 0 for none.
+// from 1; 0 for none. They are three rows, since `link` chains moves and members alike and `count_keys` counts both.
 #[derive(Clone, Copy)]
 pub struct Members<'a> {
     pub last: &'a [u16],

@@ -1,4 +1,7 @@
-// Rows of plain numbers, and chains of the places of a row that hold the same number.
+// Rows of plain numbers, and chains of the places of a row that hold the same number. A row is lent whole with the n of its
+// places that say something, which each contract holds below 512: contracts say `Holds n row`, and that later places stay; a
+// type for n would be taken apart at each use. Numbers are turned into places by `as`: proved to lose nothing, and plainer than
+// a call whose result each index's proof looks up.
 #![tactic(auto)]
 
 pub mod lent;

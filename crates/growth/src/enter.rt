@@ -39,6 +39,7 @@ pub fn join_block(
     let before = &*members.before;
     let mut end = tail;
     let mut at = members.last[b] as usize;
+    // Down a linked chain, which no range counts.
     while at > 0 {
         let s = at - 1;
         if row[s] == 0 {

@@ -32,7 +32,8 @@ pub struct Growth<'a> {
 }
 
 // Grows the row's set over the present blocks until a pass adds nothing, by whole blocks or by blocks that meet. The queue
-// lists the set, and the moves into its first `handled` states are counted.
+// lists the set, and the moves into its first `handled` states are counted. `whole` is a truth value, since the contract's
+// `net_of` and `joining` read it so. `grow_on` is no twin: it begins from one block, and counts nothing anew.
 #[inline(always)]
 pub fn grow(
     moves: &Moves<'_>,

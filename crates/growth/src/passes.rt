@@ -1,4 +1,5 @@
-// The passes over the queue, and the walk over the moves into each of its states.
+// The passes over the queue, and the walk over the moves into each of its states. Moves, members, the growing set and its row
+// are four things: block and row stand apart from the structs, since blocks are split and rows kept by others.
 ghost use Rattle.std.specs.Prelude.{ℕ, ◌+◌, ◌≤◌, ◌<◌};
 ghost use Rattle.growth.specs.Stamp.{pass_at};
 ghost use Rattle.chains.specs.Lent.{Holds};
@@ -35,6 +36,7 @@ fn walk(
     let mut tail = growth.tail;
     let c = queue[q] as usize;
     let mut at = moves.last[c] as usize;
+    // Down a linked chain, which no range counts.
     while at > 0 {
         let e = at - 1;
         let f = moves.from[e] as usize;
@@ -75,6 +77,7 @@ pub fn run_passes(
     let mut start = first;
     let mut end = entered;
     let mut pass: usize = 0;
+    // Until a pass adds nothing: how many there are is known at the end.
     loop {
         let number = (pass + 2) as u16;
         for q in start..end {

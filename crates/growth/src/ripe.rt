@@ -11,7 +11,7 @@ use crate::Growth;
 use crate::enter::join_block;
 use chains::lent::Members;
 
-// How many members of each block have the moves that they need.
+// How many members of each block have the moves that they need. It takes two rows of the growth, one to be read.
 pub fn count_hits(n: usize, block: &[u16], need: &[u16], have: &[u16], hit: &mut [u16])
     requires { (n ≤ max_states) × Keys n n block.now × (n ≤ length need.now) × (n ≤ length have.now) × Holds n hit.old (λ _. 0) }
     ensures { Holds n hit.new (hits_of n block.now need.now (λ s. get_or have.now s 0)) }

@@ -26,6 +26,7 @@ use runs::log::{SplitLog, SplitLogMut};
 use runs::starts;
 
 // Whether the round in which the rounds stopped is lost for the hunting side, and how many of the first rounds are known not to be.
+// `clear` is no part of `lost`: `play_rounds` promises of it in both cases.
 #[derive(Clone, Copy)]
 pub struct Stop {
     pub lost: bool,
@@ -120,6 +121,7 @@ pub fn play_rounds(
     log.made = 0;
     let mut due: usize = 0;
     let mut clear: usize = 0;
+    // Until a round is settled: which one is, is known when it comes.
     'rounds: loop {
         if starts::has_way(n, board.objective, board.starts, lower) {
             return Stop { lost: false, clear };

@@ -13,7 +13,7 @@ use game::{Game, has_mark};
 pub type PassRow = [u16; Game::MAX_STATES];
 
 // The side that wants to bring the play somewhere: side 1 to the target, or side 2 out of it. Objectives and sides are the
-// numbers of the file, as the clause has them.
+// numbers of the file, as the clause has them, and any number has an answer.
 pub fn hunting_side(objective: u16) -> u8
     ensures { (side_of result ≡ hunter (goal_of objective)) × T (known_turn result) }
 {

@@ -22,6 +22,7 @@ pub fn first_lost(board: &Board<'_>, clear: usize, log: &SplitLog<'_>, block: &m
     let mut earlier = [0u16; Game::MAX_STATES];
     let mut low = clear;
     let mut high = log.made;
+    // It halves; each half copies blocks about, which `partition_point` has no room for.
     while low < high {
         let middle = low + (high - low) / 2;
         copy_row(n, block, &mut earlier);

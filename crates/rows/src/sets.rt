@@ -72,7 +72,8 @@ pub fn upper_row(
     row
 }
 
-// Whether the hunting side may have its way over these blocks, worked out from nothing.
+// Whether the hunting side may have its way over these blocks, worked out from nothing. Here as in `run_rounds` the rows are
+// arrays, lent in structs: nothing is allocated, and a function cannot give back arrays together with what borrows them.
 pub fn may_have_way(board: &Board<'_>, block: &[u16]) -> bool
     requires { (g : Game) × (side : ℕ) × (turn : List ℕ) × (first : List ℕ) × PresentBy g side turn first board.now block.now }
     ensures { (g : Game) (side : ℕ) (turn first : List ℕ) → PresentBy g side turn first board.now block.now → result ≡ catchable g }

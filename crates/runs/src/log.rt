@@ -21,7 +21,7 @@ fn undo_split(n: usize, parent: u16, name: u16, block: &mut [u16])
 }
 
 // The splits of a run, and how many there are: split i was of block parents[i], and the part without that state got the name
-// names[i]. They are two rows, since `Log` says of each what it holds; they are lent, since the programs keep no heap.
+// names[i]. They are two rows, since `Log` says of each what it holds, and lent ones, of any length that is enough.
 #[derive(Clone, Copy)]
 pub struct SplitLog<'a> {
     pub parents: &'a [u16],

@@ -27,7 +27,8 @@ fn some_decides(reach: bool, starts: &[u8], row: &[u16]) -> bool
         .any(|(marks, pass)| decides(reach, *marks, *pass))
 }
 
-// The hunting side has its way: some start is in the row (reach, objective 1), or every start is (stay).
+// The hunting side has its way: some start is in the row (reach, objective 1), or every start is (stay). The objective is the
+// number of the file: the contract speaks of every number.
 pub fn has_way(n: usize, objective: u16, starts: &[u8], row: &[u16]) -> bool
     requires { (n ≤ max_states) × (n ≤ length starts.now) × (n ≤ length row.now) }
     ensures { result ≡ has_way (goal_of objective) n (λ s. marked 1 (get_or starts.now s 0)) (is_in row.now) }
