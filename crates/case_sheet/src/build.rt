@@ -8,6 +8,9 @@ use sheet_lines::fitting;
 use std::io;
 use std::io::Write;
 
+// How many states and moves the largest file that is accepted has.
+const LARGEST: (u16, u16) = (512, 4096);
+
 pub fn long_files<W: Write>(to: &mut W) -> io::Result<()> {
     of_size(to, "one state, one move", 1, 1)?;
     of_size(to, "512 states, 512 moves", 512, 512)?;
@@ -39,33 +42,36 @@ pub fn largest_files<W: Write>(to: &mut W) -> io::Result<()> {
 }
 
 fn of_size<W: Write>(to: &mut W, name: &str, states: u16, moves: u16) -> io::Result<()> {
-    let mut file = filled::<u8, FILE_ROOM>(0);
-    records(&mut file, states, moves);
-    let length = fitting(10 + 8 * usize::from(states) + 8 * usize::from(moves), &file);
-    named(to, name, &file[..length])
+    let size = 10 + 8 * usize::from(states) + 8 * usize::from(moves);
+    built(to, name, (states, moves), size, None)
 }
 
 // The largest file at another length: what comes after it is 0.
 fn of_length<W: Write>(to: &mut W, name: &str, size: usize) -> io::Result<()> {
-    let mut file = filled::<u8, FILE_ROOM>(0);
-    records(&mut file, 512, 4096);
-    let length = fitting(size, &file);
-    named(to, name, &file[..length])
+    built(to, name, LARGEST, size, None)
 }
 
 // The largest file with another number in two of its bytes.
 fn with_number<W: Write>(to: &mut W, name: &str, at: u16, value: u16) -> io::Result<()> {
-    let mut file = filled::<u8, FILE_ROOM>(0);
-    records(&mut file, 512, 4096);
-    store(&mut file, usize::from(at), value);
-    let length = fitting(36874, &file);
-    named(to, name, &file[..length])
+    built(to, name, LARGEST, 36874, Some((at, value)))
 }
 
-// The whole line of a file.
-fn named<W: Write>(to: &mut W, name: &str, file: &[u8]) -> io::Result<()> {
+// The whole line of a file of so many states and moves, at this length, with the number that is given in two of its bytes.
+fn built<W: Write>(
+    to: &mut W,
+    name: &str,
+    (states, moves): (u16, u16),
+    size: usize,
+    change: Option<(u16, u16)>,
+) -> io::Result<()> {
+    let mut file = filled::<u8, FILE_ROOM>(0);
+    records(&mut file, states, moves);
+    if let Some((at, value)) = change {
+        store(&mut file, usize::from(at), value);
+    }
+    let length = fitting(size, &file);
     write!(to, "{name}")?;
-    show::answers(to, file)
+    show::answers(to, &file[..length])
 }
 
 // Writes all records of a file.

@@ -28,13 +28,14 @@ fn main(rt: HostRuntime) -> io::Result<()> {
     let mut counts = Counts::none();
     for game in 0..GAMES {
         let shape = Shape::of(game);
-        counts.count_game(&mut to, &shape, &pair_of(&shape))?;
+        counts.count_game(&mut to, &shape, &pair_of(&shape)?)?;
     }
     write!(to, "{counts}")
 }
 
 // The game of this shape, and the exchanged game.
-fn pair_of(shape: &Shape) -> Pair {
+fn pair_of(shape: &Shape) -> io::Result<Pair> {
     let mut file = filled::<u8, FILE_ROOM>(0);
-    Pair::of_file(make::write_file(shape, &mut file), shape.allowance)
+    let written = make::write_file(shape, &mut file)?;
+    Ok(Pair::of_file(written, shape.allowance))
 }

@@ -4,31 +4,8 @@ ghost use Rattle.std.specs.Prelude.{◌<◌, ◌≤◌};
 
 use crate::random::{Draws, Purpose};
 use crate::shape::{Family, Objective, Shape, Side};
-
-// A file that is written from its start, and the place that the next byte gets.
-#[derive(Drop)]
-struct FileWriter<'a> {
-    file: &'a mut [u8],
-    end: usize,
-}
-
-impl FileWriter<'_> {
-    // Writes each number into two bytes, the low one first, as long as there is room.
-    fn record(&mut self, numbers: &[u16]) {
-        for number in numbers {
-            for byte in number.to_le_bytes() {
-                self.byte(byte);
-            }
-        }
-    }
-
-    fn byte(&mut self, byte: u8) {
-        if self.end < self.file.len() {
-            self.file[self.end] = byte;
-            self.end += 1;
-        }
-    }
-}
+use std::io;
+use std::io::{Cursor, Write};
 
 // For each of the marks and each colour, the lowest state that has them, once there is one.
 #[derive(Clone, Copy)]
@@ -54,45 +31,58 @@ impl Blocks {
     }
 }
 
-// Writes all records at the start of `file`, and answers what was written. How many moves there are is known, and written into its
-// place in the header, at the end.
-pub fn write_file<'a>(shape: &Shape, file: &'a mut [u8]) -> &'a [u8] {
-    let end = write_records(shape, file);
-    file.get(..end).unwrap_or(&[])
+// Writes all records at the start of `file`, and answers what was written.
+pub fn write_file<'a>(shape: &Shape, file: &'a mut [u8]) -> io::Result<&'a [u8]> {
+    let end = write_records(shape, file)?;
+    Ok(file.get(..end).unwrap_or(&[]))
 }
 
-fn write_records(shape: &Shape, file: &mut [u8]) -> usize {
-    let mut to = FileWriter { file, end: 0 };
-    to.record(&[8, 1, shape.states, 0, shape.objective as u16]);
-    state_records(shape, &mut to);
-    let moves = move_records(shape, &mut to);
-    let end = to.end;
-    to.end = 6;
-    to.record(&[moves]);
-    end
+// Writes all records, and answers where they end. How many moves there are is known, and written into its place in the header, at the
+// end.
+fn write_records(shape: &Shape, file: &mut [u8]) -> io::Result<usize> {
+    let mut to = Cursor::new(file);
+    record(&mut to, &[8, 1, shape.states, 0, shape.objective as u16])?;
+    state_records(shape, &mut to)?;
+    let moves = move_records(shape, &mut to)?;
+    let end = to.position() as usize;
+    to.set_position(6);
+    record(&mut to, &[moves])?;
+    Ok(end)
 }
 
-fn state_records(shape: &Shape, to: &mut FileWriter<'_>) {
+// Writes each number into two bytes, the low one first.
+fn record<W: Write>(to: &mut W, numbers: &[u16]) -> io::Result<()> {
+    for number in numbers {
+        to.write_all(&number.to_le_bytes())?;
+    }
+    Ok(())
+}
+
+fn state_records<W: Write>(shape: &Shape, to: &mut W) -> io::Result<()> {
     let mut blocks = Blocks::none();
     for number in 0..shape.states {
         let state = DrawnState { shape, number };
         let block = blocks.block_of(state);
         let turn = state.turn() as u8;
-        to.record(&[6, 2, u16::from_le_bytes([turn, state.marks()]), block]);
+        record(
+            to,
+            &[6, 2, u16::from_le_bytes([turn, state.marks()]), block],
+        )?;
     }
+    Ok(())
 }
 
 // Writes the moves of all states, and answers how many there are.
-fn move_records(shape: &Shape, to: &mut FileWriter<'_>) -> u16 {
+fn move_records<W: Write>(shape: &Shape, to: &mut W) -> io::Result<u16> {
     let mut moves: u16 = 0;
     for number in 0..shape.states {
         let state = DrawnState { shape, number };
         for other in (0..shape.most_moves).filter_map(|number| state.move_to(number)) {
-            to.record(&[6, 3, number, other]);
+            record(to, &[6, 3, number, other])?;
             moves = moves.wrapping_add(1);
         }
     }
-    moves
+    Ok(moves)
 }
 
 // A state of a game of this shape, and what is drawn for it.
