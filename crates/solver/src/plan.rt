@@ -40,7 +40,8 @@ fn better(best: u16, to: u16, mine: bool, good: bool) -> u16
 }
 
 // For each state of the winner its lowest-numbered good move by a row of passes, or none. The winner is a turn of the
-// file, which the row of turns is held against as it stands.
+// file, which the row of turns is held against as it stands. No plainer as a zip of `from` and `to`: both would be cut at
+// the number of moves first, and each index would ask which pair of moves it is read from.
 fn advice_row(board: &Board<'_>, winner: u8, chase: bool, row: &[u16]) -> Row
     requires { (n : ℕ) × WalkOn n board.now row.now }
     ensures { Cells max_states result (good_on board.now winner chase row.now board.now.moves.moves) }
