@@ -14,10 +14,8 @@ use chains::lent::{Board, Members, MembersMut, Moves};
 use chains::{clear, copy_row, gather};
 use game::Game;
 use growth::{Growth, grow, list_states};
+pub use rounds::PassRow as Row;
 use runs::starts;
-
-// Numbers by state.
-pub type Row = [u16; Game::MAX_STATES];
 
 // Links the members of the present blocks, and grows the row's set from nothing. Inlined, as `grow` is.
 #[inline(always)]
