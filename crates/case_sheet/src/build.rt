@@ -127,7 +127,8 @@ fn marks(state: u16, states: u16) -> u8
     initial + 2 * target
 }
 
-// Writes a record of length 6: its length, its kind and four bytes more.
+// Writes a record of length 6: its length, its kind and four bytes more. No plainer as one with the record of random_games, which is
+// written behind the one before: here each place is worked out, and a number is put into any two bytes.
 fn record(file: &mut [u8], at: usize, kind: u16, third: u16, fourth: u16)
     requires { at < 2 ^ 32 }
 {

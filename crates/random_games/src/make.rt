@@ -44,6 +44,7 @@ fn write_records(shape: &Shape, file: &mut [u8]) -> io::Result<usize> {
     record(&mut to, &[8, 1, shape.states, 0, shape.objective as u16])?;
     state_records(shape, &mut to)?;
     let moves = move_records(shape, &mut to)?;
+    // The place lies in `file`, so that it fits a usize.
     let end = to.position() as usize;
     to.set_position(6);
     record(&mut to, &[moves])?;

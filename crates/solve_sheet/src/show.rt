@@ -14,7 +14,7 @@ pub struct Places {
     pub moves: u16,
 }
 
-// The rows that are lent to the solver.
+// The rows that are lent to the solver. Its own rows have 512 places at least, and a sheet lends fewer too.
 #[derive(Drop)]
 struct Rows<'a> {
     marks: &'a mut [u16],
