@@ -28,7 +28,7 @@ pub struct Board<'a> {
 }
 
 // The members of each block as chains, and how many there are: the last member of each block and the one before each member, counted
-// from 1; 0 for none. They are three rows, since `link` chains moves and members alike and `count_keys` counts both.
+// from 1; 0 for none, as `last_of` has it. They are three rows, since `link` chains moves and members alike and `count_keys` counts both.
 #[derive(Clone, Copy)]
 pub struct Members<'a> {
     pub last: &'a [u16],
@@ -36,7 +36,8 @@ pub struct Members<'a> {
     pub size: &'a [u16],
 }
 
-// The same rows, lent to be written.
+// The same rows, lent to be written. They are two structs, since `grow` and `border_block` are lent rows to be read: one struct
+// would ask of their callers that they may write.
 #[derive(Drop)]
 pub struct MembersMut<'a> {
     pub last: &'a mut [u16],

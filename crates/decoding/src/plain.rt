@@ -1,5 +1,6 @@
 // The records of a sound file, read into rows of plain numbers: the one place where such rows are made. What is asked of
-// the file, `n` and `m` stands in both contracts, which docs/PROMISES.md names.
+// the file, `n` and `m` stands in both contracts, which docs/PROMISES.md names. The loops count, since each fills several rows at
+// one place.
 ghost use Rattle.std.specs.Prelude.{◌≡◌, ◌≤◌, length};
 ghost use Rattle.game.specs.Rows.{fill};
 ghost use Rattle.file.specs.Layout.{states, moves, turn as turn_of, marks as marks_of, block as block_of, from as from_of, to as to_of};

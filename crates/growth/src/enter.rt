@@ -1,4 +1,4 @@
-// What enters the queue: the states of a row, and the members of a block.
+// What enters the queue: the states of a row, and the members of a block. Counted loops and `as`: see the head of `chains`.
 ghost use Rattle.std.specs.Prelude.{ℕ, ◌≤◌, ◌<◌, length, get_or, eqb};
 ghost use Rattle.game.specs.Limits.{max_states};
 ghost use Rattle.growth.specs.Queue.{Listed, Joined};

@@ -1,4 +1,5 @@
-// When a block is ripe: all its members have as many moves into the set as they need, or one has.
+// When a block is ripe: all its members have as many moves into the set as they need, or one has. Counted loops and `as`: see
+// the head of `chains`.
 ghost use Rattle.std.specs.Prelude.{◌≡◌, cond, ◌&&◌, ℕ, ◌≤◌, length, get_or, leb};
 ghost use Rattle.game.specs.Limits.{max_states};
 ghost use Rattle.chains.specs.Lent.{Holds, Keys};

@@ -19,7 +19,7 @@ fn join(word: u8, named: u16, splits: u16) -> u64
     u64::from(word) * 4294967296 + u64::from(named) * 65536 + u64::from(splits)
 }
 
-// An answer as one number, by the words that C reads.
+// An answer as one number, by the words that C reads; the number in a `StateNo` is taken by `.0`, as `From` would.
 fn pack(answer: Result<Verdict, Refusal>) -> u64
     ensures { result ≡ packed answer }
 {

@@ -40,7 +40,8 @@ fn is_over(found: Option<BlockNo>, made: usize, allowance: usize) -> bool
     found.is_none() || made == allowance
 }
 
-// The number of the block that was found.
+// The number of the block that was found, as the rows have it. That and the tests below have names, and `b` a number for every
+// outcome: one `match` in the loop would end in two arms, each of which looks at upper.
 fn block_number(found: Option<BlockNo>) -> usize
     ensures { result ≡ found_block found }
 {
@@ -121,7 +122,7 @@ pub fn play_rounds(
     log.made = 0;
     let mut due: usize = 0;
     let mut clear: usize = 0;
-    // Until a round is settled: which one is, is known when it comes.
+    // Until a round is settled: which one is, is known when it comes. The label names the loop in its proof.
     'rounds: loop {
         if starts::has_way(n, board.objective, board.starts, lower) {
             return Stop { lost: false, clear };

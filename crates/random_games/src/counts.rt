@@ -1,4 +1,4 @@
-// What is counted over all games, and how it is printed.
+// What is counted over all games, and how it is printed. No `From` makes a u64 of a usize: that is `as`.
 use crate::examine::{PairCheck, RunCheck};
 use crate::pair::Pair;
 use crate::shape::{Family, Objective, Shape, Side};

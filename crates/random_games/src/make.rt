@@ -1,5 +1,5 @@
 // Writes the file of a game of a given shape. Blocks are made within states of the same marks, so they are precise for the starts
-// and for the target.
+// and for the target. The number of an enum's case is had by `as`, which is the language's word for it.
 ghost use Rattle.std.specs.Prelude.{◌<◌, ◌≤◌};
 
 use crate::random::{Draws, Purpose};

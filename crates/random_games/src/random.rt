@@ -1,5 +1,5 @@
 // Numbers that look random. Each is worked out from the game's number, a state, and what it is drawn for, so every run has the same
-// ones.
+// ones. `as` gives an enum's number, and a masked word's low half.
 // What is drawn: first for a game as a whole, and from `Turn` on for a state. `Moves` and the numbers after it are for the first move
 // of a state, the second, and so on.
 #[derive(Clone, Copy)]

@@ -26,7 +26,8 @@ pub fn state_count(file: &[u8]) -> usize
     }
 }
 
-/// Solves the game of the file, and prints the refusal or the verdict and a line for each state.
+/// Solves the game of the file, and prints the refusal or the verdict and a line for each state. Its rows are of fixed size:
+/// nothing is allocated.
 pub fn print_answer<W: Write>(out: &mut W, file: &[u8], allowance: u16) -> io::Result<()> {
     let mut marks = [0; Game::MAX_STATES];
     let mut blocks = [0; Game::MAX_STATES];

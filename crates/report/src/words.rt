@@ -26,7 +26,7 @@ impl fmt::Display for VerdictLine {
     }
 }
 
-/// Whether the hunting side has a state: never, open, or for sure.
+/// Whether side 1 wins from a state: never, open, or for sure.
 #[derive(Clone, Copy, Debug, PartialEq, Eq, Hash)]
 pub enum Mark {
     Never,

@@ -1,4 +1,4 @@
-// The search for the lowest-numbered border block.
+// The search for the lowest-numbered border block. Counted loops and `as`: see the head of `chains`.
 ghost use Rattle.std.specs.Prelude.{◌≡◌, not, ◌&&◌, ◌||◌, cond, suc, ◌≤◌, ◌<◌, length, get_or, eqb};
 ghost use Rattle.game.specs.Limits.{max_states, max_moves};
 ghost use Rattle.game.specs.declared.Game.{Game};
@@ -11,7 +11,8 @@ use chains::clear;
 use chains::lent::{Board, Members};
 use game::BlockNo;
 
-// Where each state's moves begin: those of s are from first[s] up to first[s + 1], since moves ascend.
+// Where each state's moves begin: those of s are from first[s] up to first[s + 1], since moves ascend. It is lent rows one by
+// one, before there is a board.
 pub fn first_moves(n: usize, m: usize, from: &[u16], first: &mut [u16])
     requires { (n ≤ max_states) × (m ≤ max_moves) × Keys n m from.now × (n < length first.old) }
     ensures { Holds (suc n) first.new (first_move (λ k. get_or from.now k 0) m) }

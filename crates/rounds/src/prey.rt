@@ -9,7 +9,7 @@ ghost use Rattle.blocks.specs.Hunt.{hunter, prey};
 
 use game::{Game, has_mark};
 
-// A row of passes.
+// A row of passes, of fixed size: nothing is allocated.
 pub type PassRow = [u16; Game::MAX_STATES];
 
 // The side that wants to bring the play somewhere: side 1 to the target, or side 2 out of it. Objectives and sides are the

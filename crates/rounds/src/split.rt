@@ -1,4 +1,5 @@
-// The split of a block.
+// The split of a block. Counted loops and `as`: see the head of `chains`. Names of blocks are numbers in the rows that are lent,
+// and so they are here; `split_block` asks for the rows it reads and no more.
 ghost use Rattle.std.specs.Prelude.{◌≡◌, not, ◌&&◌, cond, ◌≤◌, ◌<◌, length, get_or, eqb};
 ghost use Rattle.arena.specs.Sets.{least};
 ghost use Rattle.game.specs.Limits.{max_states};

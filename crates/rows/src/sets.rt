@@ -39,7 +39,8 @@ pub fn grow_anew(
     grow(moves, whole, 0, block, &members.shared(), growth, row);
 }
 
-// What the hunting side may bring about grows on from what it surely does.
+// What the hunting side may bring about grows on from what it surely does. The rows of the growth are only read here, so that
+// they are lent one by one.
 pub fn upper_row(
     moves: &Moves<'_>,
     block: &[u16],

@@ -41,7 +41,7 @@ impl SplitLog<'_> {
     }
 }
 
-// The same rows, lent to be written.
+// The same rows, lent to be written: two structs, since `first_lost` and `last_round` are lent rows to be read.
 #[derive(Drop)]
 pub struct SplitLogMut<'a> {
     pub parents: &'a mut [u16],

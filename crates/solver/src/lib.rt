@@ -152,7 +152,8 @@ fn solve_game(file: &[u8], allowance: u16, rows: &mut Rows<'_>) -> Verdict
 }
 
 // Solves the game of a file with at most `allowance` splits, and writes the three rows: marks, blocks and moves, one
-// place per state; the rest keep their content. A refusal leaves all rows as they were.
+// place per state; the rest keep their content. A refusal leaves all rows as they were. The rows are lent one by one, as C
+// lends them.
 pub fn solve(
     file: &[u8],
     allowance: u16,

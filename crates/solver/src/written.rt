@@ -1,4 +1,4 @@
-// The marks at work, and the search by them.
+// The marks at work, and the search by them. Counted loops and `as`: see the head of `chains`.
 ghost use Rattle.std.specs.Prelude.{◌≡◌, ◌&&◌, ◌≤◌, length, get_or, leb};
 ghost use Rattle.std.specs.List.{position, zip};
 ghost use Rattle.game.specs.Limits.{max_states};
