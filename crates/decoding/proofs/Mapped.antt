@@ -21,3 +21,8 @@ module _ {A : Type 0} (wrap : ℕ → A) (most n : ℕ) (f : ℕ → ℕ) (few :
   wrapped row own e long each =
       let size : length (fill n (λ s. wrap (f s)) (blank most (wrap 0))) ≡ most = fill-length n _ _ (rw blank-length few) ∙ blank-length most (wrap 0) in
       ext_get_or (wrap 0) own _ (long ∙ sym size) (λ k l. (rw e at (each k (rw long at l))) ∙ wrapped_fill k)
+
+  -- a loop that wraps the first n places, and leaves in the others what wraps 0
+  pub wrapped_first : (row : List ℕ) (own : List A) → row ≡ fill n f (zeros most) → length own ≡ most → ((k : ℕ) → k < n → get_or own k (wrap 0) ≡ wrap (get_or row k 0)) → ((k : ℕ) → n ≤ k → get_or own k (wrap 0) ≡ wrap 0) → own ≡ fill n (λ s. wrap (f s)) (blank most (wrap 0))
+  wrapped_first row own e long said after =
+      wrapped row own e long (λ i l. ⊎_elim (λ (late : n ≤ i). after i late ∙ sym (rw e (ap wrap (fill-past n f (zeros most) i 0 late ∙ zeros_at most i)))) (said i) (le_or_lt n i))

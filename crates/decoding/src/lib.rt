@@ -1,7 +1,7 @@
 // Decoding: from any byte string to an accepted game or a refusal.
 #![tactic(auto)]
 
-ghost use Rattle.std.specs.Prelude.{◌≡◌};
+ghost use Rattle.std.specs.Prelude.{◌≡◌, ℕ, ◌≤◌, ◌<◌, length, get_or};
 ghost use Rattle.file.specs.Sound.{Sound};
 ghost use Rattle.decoding.specs.Decode.{game_of, decoded};
 
@@ -11,6 +11,26 @@ use game::{BlockNo, Game, StateNo};
 pub mod plain;
 
 use plain::{plain_moves, plain_states};
+
+// The first n numbers of a row, each wrapped, and `rest` in all places after them. A counted loop, since `map` would wrap every
+// place of the row, where most files say but a few.
+fn wrapped<T: Copy, F: Fn(u16) -> T, const N: usize>(
+    n: usize,
+    numbers: &[u16],
+    rest: T,
+    wrap: F,
+) -> [T; N]
+    requires { (n ≤ N) × (n ≤ length numbers.now) × F.IsAlwaysCallable wrap }
+    ensures long { length result ≡ N }
+    ensures said { (k : ℕ) → k < n → F.post wrap (get_or numbers.now k 0) (get_or result k rest) }
+    ensures after { (k : ℕ) → n ≤ k → get_or result k rest ≡ rest }
+{
+    let mut row = [rest; N];
+    for k in 0..n {
+        row[k] = wrap(numbers[k]);
+    }
+    row
+}
 
 // The game that sound records say.
 fn read_game(file: &[u8]) -> Game
@@ -32,9 +52,9 @@ fn read_game(file: &[u8]) -> Game
         objective: number_at(file, 8),
         turn,
         marks,
-        block: block.map(BlockNo),
-        from: from.map(StateNo),
-        to: to.map(StateNo),
+        block: wrapped(states, &block, BlockNo(0), BlockNo),
+        from: wrapped(moves, &from, StateNo(0), StateNo),
+        to: wrapped(moves, &to, StateNo(0), StateNo),
     }
 }
 

@@ -34,10 +34,13 @@ fn exchanged_byte(n: usize, i: usize, b: u8) -> u8
     if i < 10 || i >= 10 + 8 * n {
         return b;
     }
-    match (i - 10) % 8 {
-        4 => other(b),
-        5 => other_marks(b),
-        _ => b,
+    // Tests in place of a `match`, which the compiler does not turn into steps over many bytes at once.
+    if (i - 10) % 8 == 4 {
+        other(b)
+    } else if (i - 10) % 8 == 5 {
+        other_marks(b)
+    } else {
+        b
     }
 }
 

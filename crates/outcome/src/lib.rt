@@ -3,8 +3,8 @@
 
 ghost use Rattle.std.specs.Prelude.{◌≤◌, length};
 ghost use Rattle.game.specs.declared.Game.{Game};
-ghost use Rattle.chains.specs.Grouped.{Roomy};
-ghost use Rattle.growth.specs.Grouped.{Spacious};
+ghost use Rattle.chains.specs.Grouped.{Roomy, SameMembers};
+ghost use Rattle.growth.specs.Grouped.{Spacious, SameGrowth};
 ghost use Rattle.runs.specs.Hunting.{upper_states};
 ghost use Rattle.rows.specs.RoundRows.{Saying, Numbered};
 ghost use Rattle.rows.specs.Grouped.{PresentOn, LoweredOn, FinishingOn, FinalOn};
@@ -38,7 +38,8 @@ fn last_lower(
 )
     requires finishing { FinishingOn board.now made block.now members.old growth.old lower.old }
     requires room { Roomy board.now.moves.states members.old × Spacious board.now.moves.states growth.old × (board.now.moves.states ≤ length lower.old) }
-    ensures { (f : FinishingOn board.now made block.now members.old growth.old lower.old) → LoweredOn f.game board.now.moves block.now members.new growth.new lower.new × Numbered f.game board.now.moves.states lower.new }
+    ensures lowered { (f : FinishingOn board.now made block.now members.old growth.old lower.old) → LoweredOn f.game board.now.moves block.now members.new growth.new lower.new × Numbered f.game board.now.moves.states lower.new }
+    ensures same { SameMembers members.old members.new × SameGrowth growth.old growth.new }
 {
     if made > 0 {
         copy_row(board.moves.states, board.prey, lower);
@@ -57,7 +58,8 @@ fn last_rows(
 ) -> Row
     requires finishing { FinishingOn board.now made block.now members.old growth.old lower.old }
     requires room { Roomy board.now.moves.states members.old × Spacious board.now.moves.states growth.old × (board.now.moves.states ≤ length lower.old) }
-    ensures { (f : FinishingOn board.now made block.now members.old growth.old lower.old) → Numbered f.game board.now.moves.states lower.new × Saying board.now.moves.states result (upper_states f.game) }
+    ensures last { (f : FinishingOn board.now made block.now members.old growth.old lower.old) → Numbered f.game board.now.moves.states lower.new × Saying board.now.moves.states result (upper_states f.game) }
+    ensures same { SameMembers members.old members.new × SameGrowth growth.old growth.new }
 {
     last_lower(board, made, block, members, growth, lower);
     let have = &mut *growth.have;

@@ -3,7 +3,7 @@
 
 pub mod words;
 
-ghost use Rattle.std.specs.Prelude.{◌≡◌, ◌<◌, length};
+ghost use Rattle.std.specs.Prelude.{◌≡◌, ◌≤◌, ◌<◌, length};
 ghost use Rattle.file.specs.Layout.{states};
 
 use file::number_at;
@@ -17,7 +17,8 @@ pub const HEADING: &str = "state mark block move";
 
 /// The states of an accepted file, as its head says.
 pub fn state_count(file: &[u8]) -> usize
-    ensures { 5 < length file.now → result ≡ states file.now }
+    ensures said { 5 < length file.now → result ≡ states file.now }
+    ensures short { length file.now ≤ 5 → result ≡ 0 }
 {
     if file.len() < 6 {
         0

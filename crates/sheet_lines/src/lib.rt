@@ -1,7 +1,7 @@
 // Reading the lines of a sheet of cases, for the programs that run one.
 #![tactic(auto)]
 
-ghost use Rattle.std.specs.Prelude.{◌≡◌, ◌≢◌, ◌+◌, ◌≤◌, ◌<◌, IfErr, Err, All, Some, length, take, drop, slice_get};
+ghost use Rattle.std.specs.Prelude.{◌≡◌, ◌≢◌, ◌+◌, ◌≤◌, ◌<◌, IfErr, Err, All, Some, length, min, take, drop, slice_get};
 ghost use Rattle.std.specs.List.{list_all};
 ghost use Rattle.sheet_lines.specs.Digits.{digit_value, with_digit, number};
 
@@ -16,6 +16,7 @@ pub const BLANK: u16 = 43690;
 
 // The size itself, or the length of `room` where that is less. With what it ensures, `&room[..r]` is proved with no proof file.
 pub fn fitting<T>(size: usize, room: &[T]) -> usize
+    ensures least { result ≡ min size (length room.now) }
     ensures in_bounds { result ≤ length room.now }
     ensures taken { result ≡ length (take result room.now) }
 {

@@ -11,8 +11,12 @@ grow_anew-requires c = (let f = c.requires.finishing in let l = c.requires.room 
 
 pub returns-then-made-gt0 : goal.returns-then-made-gt0
 returns-then-made-gt0 c =
-    λ f.
     let copied = c.copy_row.ensures.held in
     let done = c.grow_anew.ensures in
-    let held = done.stamped f.game f.side (lent f.present) in
-    (lowered_anew f.present copied held done.gathered.0 done.gathered.1, numbered_anew f.present copied held)
+    record {
+      lowered =
+          λ f.
+          let held = done.stamped f.game f.side (lent f.present) in
+          (lowered_anew f.present copied held done.gathered.0 done.gathered.1, numbered_anew f.present copied held);
+      same = done.same;
+    }

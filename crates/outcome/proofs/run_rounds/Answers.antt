@@ -49,4 +49,4 @@ pub returns : goal.returns
 returns c =
     λ g p.
     let done = c.grow_anew.ensures in
-    ends p c.copy_row.ensures.held (done.stamped g c.args.board.now.side (lent p)) done.gathered.0 done.gathered.1 c.play_rounds-stop.ensures.played (rw (c.shared.ensures.parents, c.shared.ensures.names, c.shared.ensures.made) at c.last_round-splits.ensures) c.last_rows-upper.ensures
+    ends p c.copy_row.ensures.held (done.stamped g c.args.board.now.side (lent p)) done.gathered.0 done.gathered.1 c.play_rounds-stop.ensures.played (rw (c.shared.ensures.parents, c.shared.ensures.names, c.shared.ensures.made) at c.last_round-splits.ensures) c.last_rows-upper.ensures.last
