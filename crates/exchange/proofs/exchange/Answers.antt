@@ -1,9 +1,10 @@
 -- `exchange` meets its contract.
 use native.Mathlib.Omega.{arith}
-use mathlib.Core.Path.{◌≡◌, refl, ◌∙◌}
+use mathlib.Core.Path.{◌≡◌, refl, sym, ◌∙◌}
 use Rattle.std.specs.Prelude.{Err}
 use Rattle.std.proofs.Common.{rules}
-use Rattle.game.proofs.Rows.{walk, fill_none, fill_store, fill_done}
+use Rattle.game.proofs.Rows.{fill_none}
+use Rattle.file.specs.Layout.{states}
 use Rattle.file.proofs.Sound.{taken_sound}
 use Rattle.exchange.proofs.Ends.{file-refused, room-refused, all-written}
 use Rattle.exchange.proofs.exchange.Goals as goal
@@ -20,20 +21,19 @@ returns-then-out-file c = room-refused _ _ c.in_ok-first_refusal.ensures c.if-ou
 pub number_at-requires : goal.number_at-requires
 number_at-requires c = omega (arith, (taken_sound _ c.in_ok-first_refusal.ensures).states-long)
 
-pub loop-i-init : goal.loop-i-init
-loop-i-init c = (search walk, fill_none _ _, refl)
+pub exchange_part-requires : goal.exchange_part-requires
+exchange_part-requires c =
+    let sound = taken_sound _ c.in_ok-first_refusal.ensures in
+    let n : c.from-n.result ≡ states c.args.file.now = c.from-n.ensures ∙ c.number_at.ensures in
+    (n, rw n sound.few-states, omega arith, rw n sound.states-long, omega (arith, c.if-out-file.false))
 
-pub exchanged_byte-requires : goal.exchanged_byte-requires
-exchanged_byte-requires c = omega (arith, (taken_sound _ c.in_ok-first_refusal.ensures).few-states)
-
-pub loop-i-preserved : goal.loop-i-preserved
-loop-i-preserved c = (
-  search walk,
-  fill_store _ _ _ (omega arith) _ c.loop-i.invariant.1 _ (rw (c.from-n.ensures ∙ c.number_at.ensures) at c.exchanged_byte.ensures),
-  search walk,
-)
+pub exchange_part-requires-2 : goal.exchange_part-requires-2
+exchange_part-requires-2 c =
+    let sound = taken_sound _ c.in_ok-first_refusal.ensures in
+    let n : c.from-n.result ≡ states c.args.file.now = c.from-n.ensures ∙ c.number_at.ensures in
+    (n, rw n sound.few-states, rw n sound.states-long, omega arith, omega (arith, c.if-out-file.false, c.exchange_part.auto.out))
 
 pub returns : goal.returns
 returns c =
-    all-written _ _ c.in_ok-first_refusal.ensures (λ i. (c.type_inv.file i).fits)
-    c.if-out-file.false _ (fill_done _ _ _ _ _ c.loop-i.invariant.1 (omega arith) (omega arith))
+    let states-written = c.exchange_part.ensures c.args.out.now refl (fill_none _ _) in
+    all-written _ _ c.in_ok-first_refusal.ensures (λ i. (c.type_inv.file i).fits) c.if-out-file.false _ (c.exchange_part-2.ensures c.args.out.now (sym c.exchange_part.auto.out) states-written)
