@@ -1,9 +1,9 @@
-// Rows of plain numbers, and chains of the places of a row that hold the same number. A row is lent whole with the n of its
-// places that say something, 512 at most, or the m of moves, 4,096 at most: contracts say `Holds n row` of these, and that later
-// places stay where they say `fill`; a type for n would be taken apart at each use, and so would one for `Keys`, `Linked` or `Roomy`,
-// which are asked by those that need them and no more. Numbers and places are turned into each other by `as`: proved to lose nothing, and plainer than a call
-// whose result each index's proof looks up. A loop over several rows counts the place: what a `zip` writes is not known to the
-// proof. The crates above do as this one does.
+// Rows of plain numbers, and chains of the places of a row that hold the same number. A row is lent whole with the n of its places
+// that say something, 512 at most, or the m of moves, 4,096 at most: contracts say `Holds n row` of these, and that later places
+// stay where they say `fill`; a type for n would be taken apart at each use, and so would one for `Keys`, `Linked` or `Roomy`,
+// which are asked by those that need them and no more. Numbers and places are turned into each other by `as`: proved to lose
+// nothing, and plainer than a call whose result each index's proof looks up. A loop over several rows counts the place: what a
+// `zip` writes is not known to the proof. The crates above do as this one does.
 #![tactic(auto)]
 
 pub mod lent;

@@ -44,7 +44,7 @@ fn exchanged_byte(n: usize, i: usize, b: u8) -> u8
 }
 
 // Writes the bytes of the exchanged file from place `first` up to `end`, where those before stand already. The head and the states
-// are one such part and the moves another: the compiler takes each of the two loops sixteen bytes at once, and one over all byte by byte.
+// are one such part and the moves another: the compiler takes either loop sixteen bytes at once, and a loop over all byte by byte.
 #[inline(always)]
 fn exchange_part(n: usize, first: usize, end: usize, file: &[u8], out: &mut [u8])
     requires { (n ≡ states file.now) × (n ≤ max_states) × (first ≤ end) × (end ≤ length file.now) × (length file.now ≤ length out.old) }
